@@ -1,0 +1,18 @@
+//! Values and events that every crate speaks of.
+#![tactic(auto)]
+
+mod checksum;
+mod event;
+mod list;
+mod memory;
+mod outcome;
+mod row;
+mod value;
+
+pub use checksum::{adjust, sum16};
+pub use event::{DropCause, Event, EventKind, LogEvent};
+pub use list::{List, Packets};
+pub use memory::NoMemory;
+pub use outcome::{DropCounts, Key, Mark, Outcome, Status, Word};
+pub use row::{LeaseRow, PlanRow, PlanSpec};
+pub use value::{Ext, Form, InnerKey, Ip4, Ip6, Moment, Prefix4, Prefix6, Proto, Side, Subscriber};

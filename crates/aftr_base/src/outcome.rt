@@ -1,0 +1,149 @@
+//! What a call of the program is asked, and what it answers.
+ghost use Rattle.std.specs.Prelude.{◌≡◌, string_bytes};
+
+use crate::list::List;
+use std::fmt;
+use std::marker::Model;
+
+/// A word of the command line. Contracts see its bytes.
+#[derive(Debug, Drop)]
+pub struct Word {
+    text: String,
+}
+
+impl Model for Word {
+    ghost use Rattle.std.specs.Prelude.{List as Items, ℕ, string_bytes};
+
+    ghost Value = { Items ℕ };
+
+    ghost view = { λ w. string_bytes w.text };
+}
+
+impl Word {
+    /// The word of this text. It takes the text over and needs no further memory.
+    pub fn from_string(text: String) -> Self
+        ensures { result ≡ string_bytes text }
+    {
+        Word { text }
+    }
+
+    /// The text, given back without taking memory.
+    pub fn into_string(self) -> String
+        ensures { string_bytes result ≡ self }
+    {
+        let Word { text } = self;
+        text
+    }
+
+    /// The text.
+    pub fn as_str(&self) -> &str
+        ensures { result.now ≡ self.now }
+    {
+        self.text.as_str()
+    }
+
+    /// The bytes of the text.
+    pub fn as_bytes(&self) -> &[u8]
+        ensures { result.now ≡ self.now }
+    {
+        self.text.as_bytes()
+    }
+}
+
+/// The name of a refused key of the configuration. Contracts see its bytes, and it prints as them.
+#[derive(Debug, Drop)]
+pub struct Key {
+    text: String,
+}
+
+impl Model for Key {
+    ghost use Rattle.std.specs.Prelude.{List as Items, ℕ, string_bytes};
+
+    ghost Value = { Items ℕ };
+
+    ghost view = { λ k. string_bytes k.text };
+}
+
+impl Key {
+    /// The key of this name. It takes the text over and needs no further memory.
+    pub fn from_string(text: String) -> Self
+        ensures { result ≡ string_bytes text }
+    {
+        Key { text }
+    }
+
+    /// The name, given back without taking memory.
+    pub fn into_string(self) -> String
+        ensures { string_bytes result ≡ self }
+    {
+        let Key { text } = self;
+        text
+    }
+
+    /// The name.
+    pub fn as_str(&self) -> &str
+        ensures { result.now ≡ self.now }
+    {
+        self.text.as_str()
+    }
+}
+
+impl fmt::Display for Key {
+    ghost use Rattle.std.specs.Prelude.{Some};
+
+    ghost output = { λ k. Some k };
+
+    fn fmt<W: fmt::Write>(&self, f: &mut fmt::Formatter<W>) -> fmt::Result {
+        f.write_str(self.text.as_str())
+    }
+}
+
+/// A batch of records that a failing disk call cost.
+#[derive(Clone, Copy, Debug, PartialEq, Eq)]
+pub struct Mark {
+    /// The number of the batch's first record, from 0.
+    pub first: u64,
+    /// How many records the batch has.
+    pub count: u16,
+    /// Whether the log was found to have taken the batch.
+    pub taken: bool,
+}
+
+/// How many records were dropped, by cause, in the order of `DropCause`.
+#[derive(Clone, Copy, Debug, PartialEq, Eq)]
+pub struct DropCounts(pub [u64; 23]);
+
+/// How a call of the program ended.
+#[derive(Debug, Drop)]
+pub enum Status {
+    /// All was done.
+    Ok,
+    /// The words are no command.
+    BadWords,
+    /// The configuration has a refused key: the first one.
+    BadConfig(Key),
+    /// At this offset of this input no record stands.
+    BadInput { input: u8, offset: u64 },
+    /// The configuration or an input could not be read.
+    ReadFault,
+    /// The log file failed.
+    LogFault,
+    /// The packet outlet or the report failed.
+    OutFault,
+    /// The log is damaged at this offset.
+    LogDamaged(u64),
+    /// The log's next bytes would pass its limit.
+    LogFull { tail: u64, need: u64, limit: u64 },
+    /// The log has this many bytes already.
+    AlreadyThere(u64),
+    /// Memory ran out.
+    NoMemory,
+}
+
+/// What a call of the program answers.
+#[derive(Debug, Drop)]
+pub struct Outcome {
+    pub status: Status,
+    pub marks: List<Mark>,
+    pub drops: DropCounts,
+}
