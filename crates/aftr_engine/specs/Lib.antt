@@ -1,0 +1,12 @@
+-- The definitions, one folder for each module, lowest first.
+pub mod wire_ip4
+pub mod wire_ip6
+pub mod wire_l4
+pub mod link_records
+pub mod cfg_text
+pub mod subscriber_table
+pub mod port_blocks
+pub mod nat_mapping
+pub mod nat_events
+pub mod xlate_core
+pub mod aftr_engine

@@ -1,0 +1,5 @@
+pub mod Words
+pub mod Output
+pub mod Report
+pub mod Causes
+pub mod EndToEnd

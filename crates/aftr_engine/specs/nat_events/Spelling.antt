@@ -1,0 +1,19 @@
+-- The log: one record of 34 bytes for each block that opens.
+use Rattle.std.specs.Prelude.{ℕ, List, ◌∷◌, ◌++◌, Bool, true, if◌then◌else◌}
+use Rattle.aftr_base.specs.Bytes.{be16, be32, be64, be128}
+use Rattle.aftr_base.specs.declared.row.LeaseRow.{LeaseRow}
+use Rattle.aftr_base.specs.declared.value.Moment.{Moment}
+
+-- natEvent: 16 says that a block opens, 17 that it closes (RFC 8158 4.1, IANA)
+abbrev pub event_number : Bool → ℕ
+event_number opens = if opens then 16 else 17
+
+-- observationTimeMilliseconds, natEvent, sourceIPv6Address, sourceIPv6PrefixLength, postNATSourceIPv4Address,
+-- portRangeStart, portRangeEnd
+abbrev pub block_record : Bool → Moment → LeaseRow → List ℕ
+block_record opens at l =
+    be64 at.0 ++ event_number opens ∷ (be128 l.owner.0.bits.0 ++ l.owner.0.len ∷ (be32 l.addr.0 ++ be16 l.first ++ be16 l.last))
+
+-- a block opens as its lease begins
+abbrev pub opening_record : LeaseRow → List ℕ
+opening_record l = block_record true l.since l

@@ -1,0 +1,55 @@
+-- Which place a mapping gets (RFC 4787 4, RFC 6888 3), and the first reason why it gets none.
+use Rattle.std.specs.Prelude.{ℕ, ◌==◌, [], ◌∷◌, ◌++◌, length, Option, Some, None, is_some, option_map, option_to_list, Result, Ok, ok_or, if◌then◌else◌}
+use Rattle.aftr_base.specs.Attempt.{◌>>◌, require, first_some}
+use Rattle.aftr_base.specs.Value.{place}
+use Rattle.aftr_base.specs.declared.value.Ip4.{Ip4}
+use Rattle.aftr_base.specs.declared.value.Ext.{Ext}
+use Rattle.aftr_base.specs.declared.value.InnerKey.{InnerKey}
+use Rattle.aftr_base.specs.declared.value.Proto.{Proto}
+use Rattle.aftr_base.specs.declared.row.LeaseRow.{LeaseRow}
+use Rattle.aftr_base.specs.declared.event.DropCause.{DropCause}
+use Rattle.aftr_base.specs.declared.event.DropCause.TheVariants.{QuotaBlocks, PoolEmpty}
+use Rattle.aftr_engine.specs.declared.nat_mapping.Row.{Row}
+use Rattle.aftr_engine.specs.nat_mapping.Rows.{find_out, least_free}
+use Rattle.aftr_engine.specs.port_blocks.Free.{open_of, block_anywhere, opened}
+use Rattle.aftr_engine.specs.xlate_core.State.{State, Sender}
+
+-- a place, and the lease that has to open for it
+pub record Grant : Type 0 where
+  pub place : Ext
+  pub lease : Option LeaseRow
+
+abbrev pub at_once : Ext → Grant
+at_once e = record { place = e; lease = None }
+
+-- the least free port in the sender's open leases, in order of opening
+abbrev pub place_in_lease : State → Sender → Proto → Option Ext
+place_in_lease s who proto =
+    first_some (λ (l : LeaseRow). option_map (place l.addr) (least_free proto l.addr l.first l.last s.rows)) (open_of who.owner s.leases)
+
+abbrev pub new_lease : State → Sender → Ip4 × ℕ → Grant
+new_lease s who b = record { place = place b.0 b.1; lease = Some (opened s.config who.owner s.clock b.0 b.1) }
+
+-- a subscriber has one block: the first free one of the pool
+abbrev pub new_block : State → Sender → Result Grant DropCause
+new_block s who =
+    require (length (open_of who.owner s.leases) == 0) QuotaBlocks
+    >> ok_or (option_map (new_lease s who) (block_anywhere s.config s.leases who.owner s.clock)) PoolEmpty
+
+-- a mapping keeps its place for every remote endpoint (RFC 4787 4.1, REQ-1)
+abbrev pub granted : State → Sender → InnerKey → Result Grant DropCause
+granted s who key =
+    elim (find_out key s.rows) [
+      | Some r ↦ Ok (at_once r.ext)
+      | None ↦ elim (place_in_lease s who key.proto) [ Some ext ↦ Ok (at_once ext) | None ↦ new_block s who ]
+    ]
+
+abbrev pub row_for : Sender → InnerKey → Ext → Row
+row_for who key ext = record { key = key; owner = who.owner; ext = ext }
+
+-- the state after a grant
+abbrev pub after_grant : Sender → InnerKey → Grant → State → State
+after_grant who key g s = record s {
+  rows = if is_some (find_out key s.rows) then s.rows else s.rows ++ row_for who key g.place ∷ [];
+  leases = s.leases ++ option_to_list g.lease;
+}

@@ -1,0 +1,35 @@
+-- The state of the translator, as lists in order of making.
+use Rattle.std.specs.Prelude.{ℕ, Bool, List, Option}
+use Rattle.std.specs.List.{list_any}
+use Rattle.aftr_base.specs.Value.{is_under4}
+use Rattle.aftr_base.specs.declared.value.Ip4.{Ip4}
+use Rattle.aftr_base.specs.declared.value.Ip6.{Ip6}
+use Rattle.aftr_base.specs.declared.value.Subscriber.{Subscriber}
+use Rattle.aftr_base.specs.declared.row.LeaseRow.{LeaseRow}
+use Rattle.aftr_base.specs.declared.event.DropCause.{DropCause}
+use Rattle.aftr_engine.specs.declared.cfg_text.Config.{Config}
+use Rattle.aftr_engine.specs.declared.nat_mapping.Row.{Row}
+use Rattle.aftr_engine.specs.declared.xlate_core.Item.{Item}
+
+-- The clock is the greatest moment so far. A packet at or before the floor settles: the log has the names of that time.
+pub record State : Type 0 where
+  pub config : Config
+  pub clock : ℕ
+  pub floor : ℕ
+  pub rows : List Row
+  pub leases : List LeaseRow
+
+-- what a record leaves, sends and opens, and why it was dropped, if it was
+pub record Step : Type 0 where
+  pub state : State
+  pub items : List Item
+  pub openings : List LeaseRow
+  pub drop : Option DropCause
+
+-- a subscriber, and the softwire that it speaks through
+pub record Sender : Type 0 where
+  pub softwire : Ip6
+  pub owner : Subscriber
+
+abbrev pub is_ours : Config → Ip4 → Bool
+is_ours c a = list_any (λ p. is_under4 p a) c.pool

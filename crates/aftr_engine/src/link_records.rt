@@ -1,0 +1,18 @@
+//! Records of an input, and records that are written.
+
+use aftr_base::Event;
+
+/// What stands next in an input.
+#[derive(Debug, Drop)]
+pub enum Next {
+    /// A record.
+    Got(Event),
+    /// The input's end.
+    End,
+    /// At this offset, in bytes, no record stands.
+    Bad(u64),
+    /// The input could not be read.
+    Failed,
+    /// Memory ran out.
+    NoMemory,
+}
