@@ -1,0 +1,189 @@
+// What a plant in memory keeps of its calls.
+ghost use Rattle.std.specs.Prelude.{◌≡◌, ◌≤◌, ◌-◌, [], ◌∷◌, ◌++◌, length, min, take, drop, OnOk, OnErr};
+ghost use Rattle.plant_io.specs.Story.{wrote, synced, content, sent, emit_all};
+ghost use Rattle.plant_io.specs.Causes.{Rose};
+ghost use Rattle.plant_mem.specs.declared.tape.PlantCall.TheVariants.{Size, ReadAt, WriteAt, Sync, Emit};
+ghost use Rattle.plant_mem.specs.Tape.{begun};
+
+use crate::disk::Disk;
+use aftr_base::{List, NoMemory};
+use plant_io::Failed;
+use std::alloc::Global;
+use std::marker::Model;
+
+/// The kinds of a plant's calls, one for each method of the trait `Plant`.
+#[derive(Clone, Copy, Debug, PartialEq, Eq)]
+pub enum PlantCall {
+    /// The size was asked for.
+    Size,
+    /// Bytes were read.
+    ReadAt,
+    /// Bytes were written.
+    WriteAt,
+    /// The file was synced.
+    Sync,
+    /// A piece was sent.
+    Emit,
+}
+
+/// A step that can be seen after a stop.
+#[derive(Drop)]
+pub enum Kept {
+    /// Bytes that were stored at a place, and how many more of the range weren't.
+    Wrote(usize, Vec<u8>, usize),
+    Synced,
+    /// So many bytes left by the outlet.
+    Emitted(usize),
+}
+
+/// A file, an outlet, and what was done to them.
+#[derive(Drop)]
+pub struct Tape {
+    alloc: Global,
+    disk: Disk,
+    outlet: Vec<u8>,
+    made: Vec<PlantCall>,
+    kept: Vec<Kept>,
+    disk_count: u64,
+    out_count: u64,
+}
+
+impl Model for Tape {
+    ghost use Rattle.plant_mem.specs.Disk.{start_of, bytes_now};
+    ghost use Rattle.plant_mem.specs.Tape.{TapeValue, IsTold, story_of, begun};
+
+    ghost Value = { TapeValue };
+
+    ghost view = { λ t. record { story = story_of t.kept.items t.outlet.items (begun (start_of t.disk)); calls = t.made.items; disk_faults = t.disk_count; out_faults = t.out_count } };
+
+    ghost invariant = { λ t. IsTold (start_of t.disk) (bytes_now t.disk) t.outlet.items t.kept.items };
+}
+
+impl Tape {
+    pub fn new(alloc: Global, image: List<u8>) -> Self
+        ensures story { result.story ≡ begun image }
+        ensures calls { result.calls ≡ [] }
+        ensures disk_faults { result.disk_faults ≡ 0 }
+        ensures out_faults { result.out_faults ≡ 0 }
+    {
+        Tape {
+            alloc,
+            disk: Disk::new(image),
+            outlet: Vec::new(alloc),
+            made: Vec::new(alloc),
+            kept: Vec::new(alloc),
+            disk_count: 0,
+            out_count: 0,
+        }
+    }
+
+    pub fn content(&self) -> &[u8]
+        ensures { result.now ≡ content self.now.story }
+    {
+        self.disk.bytes()
+    }
+
+    pub fn sent(&self) -> &[u8]
+        ensures { result.now ≡ sent self.now.story }
+    {
+        &self.outlet
+    }
+
+    pub fn calls(&self) -> &[PlantCall]
+        ensures { result.now ≡ self.now.calls }
+    {
+        &self.made
+    }
+
+    /// Counts a failure of the file.
+    pub fn fail_disk(&mut self) -> Failed
+        ensures rose { Rose self.old.disk_faults self.new.disk_faults }
+        ensures later { self.old.disk_faults ≤ self.new.disk_faults }
+        ensures same { self.new ≡ record self.old { disk_faults = self.new.disk_faults } }
+    {
+        self.disk_count = self.disk_count.saturating_add(1);
+        Failed
+    }
+
+    /// Counts a failure of the outlet.
+    pub fn fail_out(&mut self) -> Failed
+        ensures rose { Rose self.old.out_faults self.new.out_faults }
+        ensures later { self.old.out_faults ≤ self.new.out_faults }
+        ensures same { self.new ≡ record self.old { out_faults = self.new.out_faults } }
+    {
+        self.out_count = self.out_count.saturating_add(1);
+        Failed
+    }
+
+    /// Keeps a call that made no step.
+    pub fn note(&mut self, call: PlantCall) -> Result<(), NoMemory>
+        ensures ok { OnOk result (self.new ≡ record self.old { calls = self.old.calls ++ call ∷ [] }) }
+        ensures err { OnErr result (self.new ≡ self.old) }
+    {
+        self.made.push(call)?;
+        Ok(())
+    }
+
+    /// Reads from a place: as many bytes as the buffer has room for, unless the file ends before.
+    pub fn copy_at(&self, at: u64, buf: &mut [u8]) -> usize
+        ensures within { result ≤ length buf.new }
+        ensures count { result ≡ min (length buf.new) (length (content self.now.story) - at) }
+        ensures bytes { take result buf.new ≡ take result (drop at (content self.now.story)) }
+    {
+        let file = self.disk.bytes();
+        if at >= file.len() as u64 {
+            return 0;
+        }
+        let count = buf.len().min(file.len() - at as usize);
+        buf[..count].copy_from_slice(&file[at as usize..at as usize + count]);
+        count
+    }
+
+    /// Stores bytes at a place: a write, of whose range `lost` more bytes aren't stored. `Err` changes nothing.
+    pub fn keep_write(&mut self, at: usize, stored: &[u8], lost: usize) -> Result<(), NoMemory>
+        requires { at ≤ length (content self.old.story) }
+        ensures ok { OnOk result (self.new ≡ record self.old {
+          story = wrote at stored.now lost ∷ self.old.story;
+          calls = self.old.calls ++ WriteAt ∷ [];
+        }) }
+        ensures err { OnErr result (self.new ≡ self.old) }
+    {
+        let bytes = stored.to_vec(self.alloc)?;
+        self.made.reserve(1)?;
+        self.kept.reserve(1)?;
+        self.disk.put(self.alloc, at, stored)?;
+        self.made.push(PlantCall::WriteAt)?;
+        self.kept.push(Kept::Wrote(at, bytes, lost))?;
+        Ok(())
+    }
+
+    /// A sync. `Err` changes nothing.
+    pub fn keep_sync(&mut self) -> Result<(), NoMemory>
+        ensures ok { OnOk result (self.new ≡ record self.old {
+          story = synced ∷ self.old.story;
+          calls = self.old.calls ++ Sync ∷ [];
+        }) }
+        ensures err { OnErr result (self.new ≡ self.old) }
+    {
+        self.made.reserve(1)?;
+        self.kept.push(Kept::Synced)?;
+        self.made.push(PlantCall::Sync)?;
+        Ok(())
+    }
+
+    /// Sends a piece. `Err` changes nothing.
+    pub fn keep_emit(&mut self, piece: &[u8]) -> Result<(), NoMemory>
+        ensures ok { OnOk result (self.new ≡ record self.old {
+          story = emit_all piece.now self.old.story;
+          calls = self.old.calls ++ Emit ∷ [];
+        }) }
+        ensures err { OnErr result (self.new ≡ self.old) }
+    {
+        self.made.reserve(1)?;
+        self.kept.reserve(1)?;
+        self.outlet.extend_from_slice(piece)?;
+        self.kept.push(Kept::Emitted(piece.len()))?;
+        self.made.push(PlantCall::Emit)?;
+        Ok(())
+    }
+}
