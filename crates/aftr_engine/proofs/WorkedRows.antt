@@ -6,6 +6,7 @@ use Rattle.std.specs.Int.{bytes_high_first}
 use Rattle.aftr_base.specs.Bytes.{be16, be32, be64, be128}
 use Rattle.aftr_base.specs.declared.event.DropCause.TheVariants.{Settling}
 use Rattle.aftr_engine.specs.link_records.Frames.{BadAt, frames_of}
+use Rattle.aftr_engine.specs.aftr_engine.Report.{drop_counts}
 use Rattle.aftr_engine.specs.aftr_engine.EndToEnd.{run_of, output_of, log_of, summary_of}
 
 -- this many bytes, written as one number
@@ -27,7 +28,7 @@ unfolding be16 be32 be64 be128
 one_record = refl
 
 one_report : summary_of frame ≡ codes "records 1\nsent 1\nmarks 0\n"
-unfolding digits be16 be32 be64 be128
+unfolding drop_counts digits be16 be32 be64 be128
 one_report = refl
 
 -- a second packet of the same inner place goes out from the same external place, and opens nothing

@@ -9,4 +9,7 @@ pub mod port_blocks
 pub mod nat_mapping
 pub mod nat_events
 pub mod xlate_core
+pub mod egress_gate
 pub mod aftr_engine
+pub mod session
+pub mod engine

@@ -2,4 +2,5 @@ pub mod Words
 pub mod Output
 pub mod Report
 pub mod Causes
+pub mod Progress
 pub mod EndToEnd

@@ -2,12 +2,23 @@
 #![tactic(auto)]
 
 mod cfg_text;
+mod egress_gate;
+mod engine;
+mod lease_log;
 mod link_records;
+mod nat_events;
 mod nat_mapping;
+mod octets;
+mod port_blocks;
+mod report;
+mod session;
+mod subscriber_table;
+mod tally;
 mod wire_ip4;
 mod wire_ip6;
 mod wire_l4;
 mod words;
 mod xlate_core;
 
-pub use words::Paths;
+pub use engine::aftr;
+pub use words::{Paths, paths_of};

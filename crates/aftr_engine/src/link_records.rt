@@ -2,6 +2,14 @@
 
 use aftr_base::Event;
 
+mod front;
+mod reader;
+mod window;
+mod write;
+
+pub use reader::FrameReader;
+pub use write::write_record;
+
 /// What stands next in an input.
 #[derive(Debug, Drop)]
 pub enum Next {

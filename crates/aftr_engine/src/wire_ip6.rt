@@ -1,6 +1,10 @@
-//! IPv6 headers (RFC 8200).
+//! IPv6 packets (RFC 8200 3).
+ghost use Rattle.std.specs.Prelude.{◌≡◌};
+ghost use Rattle.aftr_engine.specs.wire_ip6.Grammar.{packet_of};
 
+use crate::octets::{u16_in, u128_in};
 use aftr_base::Ip6;
+use std::marker::Model;
 
 /// The fields of an IPv6 header, but for the flow label. The payload length counts bytes.
 #[derive(Clone, Copy, Debug, PartialEq, Eq)]
@@ -22,4 +26,70 @@ pub enum Ip6Bad {
     Version,
     /// The payload length is past the bytes.
     PayloadLen,
+}
+
+/// A packet, read in place. Contracts see its fields and its payload.
+#[derive(Debug, Drop)]
+pub struct Ip6View<'a> {
+    bytes: &'a [u8],
+    payload: &'a [u8],
+}
+
+impl<'a> Model for Ip6View<'a> {
+    ghost use Rattle.std.specs.Prelude.{ℕ, ◌≤◌, List, length};
+    ghost use Rattle.aftr_engine.specs.declared.wire_ip6.Ip6Fields.{Ip6Fields};
+
+    ghost Value = { Ip6Fields × List ℕ };
+
+    ghost use Rattle.aftr_engine.specs.wire_ip6.Grammar.{fields_of};
+
+    ghost view = { λ v. (fields_of v.bytes.now, v.payload.now) };
+
+    ghost invariant = { λ v. 40 ≤ length v.bytes.now };
+}
+
+impl<'a> Ip6View<'a> {
+    /// The packet at the front of these bytes, with its payload of as many bytes as the payload length
+    /// says.
+    pub fn read(bytes: &'a [u8]) -> Result<Ip6View<'a>, Ip6Bad>
+        ensures { result ≡ packet_of bytes.now }
+    {
+        if bytes.len() < 40 {
+            return Err(Ip6Bad::Short);
+        }
+        if bytes[0] / 16 != 6 {
+            return Err(Ip6Bad::Version);
+        }
+        let len = usize::from(u16_in(bytes, 4));
+        if bytes.len() < 40 + len {
+            return Err(Ip6Bad::PayloadLen);
+        }
+        let after = &bytes[40..];
+        Ok(Ip6View {
+            bytes,
+            payload: &after[..len],
+        })
+    }
+
+    /// The fields, but for the flow label.
+    pub fn fields(&self) -> Ip6Fields
+        ensures { result ≡ self.now.0 }
+    {
+        let bytes = self.bytes;
+        Ip6Fields {
+            class: (u16_in(bytes, 0) / 16 % 256) as u8,
+            payload: u16_in(bytes, 4),
+            next: bytes[6],
+            hops: bytes[7],
+            src: Ip6(u128_in(bytes, 8)),
+            dst: Ip6(u128_in(bytes, 24)),
+        }
+    }
+
+    /// What the header is put before, the extension headers among it.
+    pub fn payload(&self) -> &'a [u8]
+        ensures { result.now ≡ self.now.1 }
+    {
+        self.payload
+    }
 }

@@ -1,6 +1,21 @@
 //! The translator: events to packets, one record after another.
+ghost use Rattle.std.specs.Prelude.{◌≡◌, ◌++◌, [], ◌∷◌, option_to_list, IfOk, OnOk};
+ghost use Rattle.aftr_engine.specs.xlate_core.Run.{start as start_of};
+ghost use Rattle.aftr_engine.specs.cfg_text.Defaults.{defaults};
 
-use aftr_base::{List, Moment, Side, Subscriber};
+mod grant;
+mod receive;
+mod translate;
+
+use crate::cfg_text::Config;
+use crate::nat_mapping::Table;
+use crate::port_blocks::Blocks;
+use aftr_base::{DropCause, Event, EventKind, LeaseRow, List, Moment, NoMemory, Side, Subscriber};
+use grant::{Sender, granted, keep};
+use receive::{Received, receive};
+use std::alloc::Global;
+use std::marker::Model;
+use translate::{key_of, write_outbound};
 
 /// A packet that goes out, the moment of its record, and the subscriber whose place its source is.
 #[derive(Debug, Drop)]
@@ -9,4 +24,174 @@ pub struct Item {
     pub at: Moment,
     pub owner: Option<Subscriber>,
     pub bytes: List<u8>,
+}
+
+/// What a record gave: the packets that go out and the leases that opened, in order.
+#[derive(Debug, Drop)]
+pub struct StepOut {
+    pub items: List<Item>,
+    pub openings: List<LeaseRow>,
+}
+
+impl StepOut {
+    /// Nothing, which takes no memory.
+    pub fn new(alloc: Global) -> Self
+        ensures items { result.items ≡ [] }
+        ensures openings { result.openings ≡ [] }
+    {
+        StepOut {
+            items: List::new(alloc),
+            openings: List::new(alloc),
+        }
+    }
+
+    /// Lets all go and keeps the room.
+    pub fn clear(&mut self)
+        ensures items { self.new.items ≡ [] }
+        ensures openings { self.new.openings ≡ [] }
+    {
+        self.items.clear();
+        self.openings.clear();
+    }
+
+    // Adds a packet, and the lease that opened for it where there is one.
+    fn put(&mut self, item: Item, lease: Option<LeaseRow>) -> Result<(), NoMemory>
+        ensures items { OnOk result (self.new.items ≡ self.old.items ++ item ∷ []) }
+        ensures openings { OnOk result (self.new.openings ≡ self.old.openings ++ option_to_list lease) }
+    {
+        if let Some(lease) = lease {
+            self.openings.push(lease)?;
+        }
+        self.items.push(item)
+    }
+}
+
+/// The translator's state: the clock in milliseconds, the mappings and the leases. The floor is the moment up to
+/// which packets settle.
+#[derive(Drop)]
+pub struct Core {
+    config: Config,
+    clock: Moment,
+    floor: Moment,
+    table: Table,
+    blocks: Blocks,
+}
+
+impl Model for Core {
+    ghost use Rattle.std.specs.Prelude.{◌≡◌};
+    ghost use Rattle.aftr_engine.specs.cfg_text.Defaults.{defaults};
+    ghost use Rattle.aftr_engine.specs.xlate_core.State.{State, state_of};
+
+    ghost Value = { State };
+
+    ghost view = { λ c. state_of c.config c.clock.0 c.floor.0 c.table c.blocks };
+
+    ghost invariant = { λ c. c.config ≡ defaults };
+}
+
+impl Core {
+    ghost use Rattle.aftr_engine.specs.xlate_core.Receive.{received};
+    ghost use Rattle.aftr_engine.specs.xlate_core.Step.{step, packet_treated, from_subscriber};
+    ghost use Rattle.aftr_engine.specs.xlate_core.Stepped.{HasStepped};
+
+    /// The state at the start: the default configuration, no mapping and no lease.
+    pub fn start(alloc: Global) -> Result<Self, NoMemory>
+        ensures { IfOk result (λ core. core ≡ start_of defaults) }
+    {
+        Ok(Core {
+            config: Config::defaults(alloc)?,
+            clock: Moment(0),
+            floor: Moment(0),
+            table: Table::new(alloc),
+            blocks: Blocks::new(alloc),
+        })
+    }
+
+    /// Takes one record through the translator: its packets and leases go to `out`, and the answer is why it was
+    /// dropped, if it was. After `NoMemory` nothing is said of the state, which is only dropped.
+    pub fn step(
+        &mut self,
+        alloc: Global,
+        event: &Event,
+        out: &mut StepOut,
+    ) -> Result<Option<DropCause>, NoMemory>
+        requires items { out.old.items ≡ [] }
+        requires openings { out.old.openings ≡ [] }
+        ensures { IfOk result (λ cause. HasStepped (step self.old event.now) self.new out.new cause) }
+    {
+        if self.clock.0 < event.at.0 {
+            self.clock = event.at;
+        }
+        match event.kind {
+            EventKind::Softwire => {
+                let received = receive(&self.config, event.bytes.as_slice());
+                self.treat_packet(alloc, received, out)
+            }
+            EventKind::Public | EventKind::Snapped | EventKind::Foreign | EventKind::Stray => {
+                self.treat_packet(alloc, None, out)
+            }
+            EventKind::Tick => Ok(None),
+            EventKind::Change => Ok(Some(DropCause::BadChange)),
+        }
+    }
+
+    // A packet record, and the datagram in it where it is one that is translated.
+    fn treat_packet(
+        &mut self,
+        alloc: Global,
+        received: Option<Received<'_>>,
+        out: &mut StepOut,
+    ) -> Result<Option<DropCause>, NoMemory>
+        requires items { out.old.items ≡ [] }
+        requires openings { out.old.openings ≡ [] }
+        ensures { IfOk result (λ cause. HasStepped (packet_treated self.old received.entry) self.new out.new cause) }
+    {
+        if self.clock.0 <= self.floor.0 {
+            return Ok(Some(DropCause::Settling));
+        }
+        match received {
+            Some(received) => self.forward(alloc, &received, out),
+            None => Ok(Some(DropCause::NoProtocol)),
+        }
+    }
+
+    // A datagram of a subscriber: its mapping, and out to the public side.
+    fn forward(
+        &mut self,
+        alloc: Global,
+        received: &Received<'_>,
+        out: &mut StepOut,
+    ) -> Result<Option<DropCause>, NoMemory>
+        requires items { out.old.items ≡ [] }
+        requires openings { out.old.openings ≡ [] }
+        ensures { IfOk result (λ cause. HasStepped (from_subscriber self.old received.now) self.new out.new cause) }
+    {
+        let who = Sender {
+            softwire: received.softwire(),
+            owner: received.owner(),
+        };
+        let key = key_of(received);
+        let grant = match granted(
+            &self.config,
+            self.clock,
+            &self.table,
+            &self.blocks,
+            &who,
+            &key,
+        ) {
+            Ok(grant) => grant,
+            Err(cause) => return Ok(Some(cause)),
+        };
+        let mut bytes = List::new(alloc);
+        write_outbound(received, grant.place, &mut bytes)?;
+        keep(&mut self.table, &mut self.blocks, &who, &key, &grant)?;
+        let item = Item {
+            side: Side::Public,
+            at: self.clock,
+            owner: Some(who.owner),
+            bytes,
+        };
+        out.put(item, grant.lease)?;
+        Ok(None)
+    }
 }

@@ -40,7 +40,7 @@ causes =
 abbrev pub drop_count : List DropCause → DropCause → ℕ
 drop_count drops cause = count_by (λ d. bytes_eq (name_of d) (name_of cause)) drops
 
-abbrev pub drop_counts : List DropCause → List ℕ
+unfoldable pub drop_counts : List DropCause → List ℕ
 drop_counts drops = map (drop_count drops) causes
 
 -- words between spaces, and a line feed

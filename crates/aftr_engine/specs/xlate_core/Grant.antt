@@ -1,5 +1,5 @@
 -- Which place a mapping gets (RFC 4787 4, RFC 6888 3), and the first reason why it gets none.
-use Rattle.std.specs.Prelude.{ℕ, ◌==◌, [], ◌∷◌, ◌++◌, length, Option, Some, None, is_some, option_map, option_to_list, Result, Ok, ok_or, if◌then◌else◌}
+use Rattle.std.specs.Prelude.{ℕ, ◌==◌, [], ◌∷◌, ◌++◌, length, List, Option, Some, None, is_some, option_map, option_to_list, Result, Ok, Err, ok_or, if◌then◌else◌}
 use Rattle.aftr_base.specs.Attempt.{◌>>◌, require, first_some}
 use Rattle.aftr_base.specs.Value.{place}
 use Rattle.aftr_base.specs.declared.value.Ip4.{Ip4}
@@ -10,6 +10,7 @@ use Rattle.aftr_base.specs.declared.row.LeaseRow.{LeaseRow}
 use Rattle.aftr_base.specs.declared.event.DropCause.{DropCause}
 use Rattle.aftr_base.specs.declared.event.DropCause.TheVariants.{QuotaBlocks, PoolEmpty}
 use Rattle.aftr_engine.specs.declared.nat_mapping.Row.{Row}
+use Rattle.aftr_engine.specs.declared.xlate_core.grant.Grant.{Grant as GrantValue}
 use Rattle.aftr_engine.specs.nat_mapping.Rows.{find_out, least_free}
 use Rattle.aftr_engine.specs.port_blocks.Free.{open_of, block_anywhere, opened}
 use Rattle.aftr_engine.specs.xlate_core.State.{State, Sender}
@@ -22,10 +23,22 @@ pub record Grant : Type 0 where
 abbrev pub at_once : Ext → Grant
 at_once e = record { place = e; lease = None }
 
+-- what the code's grant says, and its answer
+abbrev pub grant_of : GrantValue → Grant
+grant_of g = record { place = g.place; lease = g.lease }
+
+abbrev pub answer_of : Result GrantValue DropCause → Result Grant DropCause
+answer_of (Ok g) = Ok (grant_of g)
+answer_of (Err cause) = Err cause
+
+-- the least free port in a lease
+abbrev pub place_in : List Row → Proto → LeaseRow → Option Ext
+place_in rows proto l = option_map (place l.addr) (least_free proto l.addr l.first l.last rows)
+
 -- the least free port in the sender's open leases, in order of opening
 abbrev pub place_in_lease : State → Sender → Proto → Option Ext
 place_in_lease s who proto =
-    first_some (λ (l : LeaseRow). option_map (place l.addr) (least_free proto l.addr l.first l.last s.rows)) (open_of who.owner s.leases)
+    first_some (place_in s.rows proto) (open_of who.owner s.leases)
 
 abbrev pub new_lease : State → Sender → Ip4 × ℕ → Grant
 new_lease s who b = record { place = place b.0 b.1; lease = Some (opened s.config who.owner s.clock b.0 b.1) }

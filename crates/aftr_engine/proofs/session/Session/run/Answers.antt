@@ -1,0 +1,46 @@
+use Rattle.std.proofs.Common.{◌++◌, arith}
+use Rattle.plant_io.specs.Story.{content, sent}
+use Rattle.aftr_engine.proofs.RunSteps.{onward, are_few, way_sent, way_within}
+use Rattle.aftr_engine.proofs.session.Session.run.Goals as goal
+
+pub returns-in-End-clause-part : goal.returns-in-End-clause-part
+returns-in-End-clause-part g c = λ reads tells. way_sent _ _ _ _ _ _ _ _ _ _ _ c.loop-event.invariant.way reads tells
+
+pub returns-in-Bad-clause-part : goal.returns-in-Bad-clause-part
+returns-in-Bad-clause-part g c = λ reads tells. way_sent _ _ _ _ _ _ _ _ _ _ _ c.loop-event.invariant.way reads tells
+
+pub returns-in-Failed-clause-part : goal.returns-in-Failed-clause-part
+returns-in-Failed-clause-part g c = λ reads tells. way_sent _ _ _ _ _ _ _ _ _ _ _ c.loop-event.invariant.way reads tells
+
+pub returns-in-NoMemory-clause-part : goal.returns-in-NoMemory-clause-part
+returns-in-NoMemory-clause-part g c = λ reads tells. way_sent _ _ _ _ _ _ _ _ _ _ _ c.loop-event.invariant.way reads tells
+
+pub pass-requires-clause-few : goal.pass-requires-clause-few
+pass-requires-clause-few g c = are_few _ _ _ _ _ _ _ _ _ _ _ c.loop-event.invariant.way
+
+pub returns-in-Err-NoMemory-clause-part : goal.returns-in-Err-NoMemory-clause-part
+returns-in-Err-NoMemory-clause-part g c = λ reads tells.
+    way_within _ _ _ _ _ _ _ _ _ _ _ _ _ _ _ c.loop-event.invariant.way reads tells (c.in-Got.ensures.reads reads) (c.in-Err-NoMemory.ensures.part tells)
+
+pub returns-in-Err-Log-clause-part : goal.returns-in-Err-Log-clause-part
+returns-in-Err-Log-clause-part g c = λ reads tells.
+    way_within _ _ _ _ _ _ _ _ _ _ _ _ _ _ _ c.loop-event.invariant.way reads tells (c.in-Got.ensures.reads reads) (c.in-Err-Log.ensures.part tells)
+
+pub returns-in-Err-Outlet-clause-part : goal.returns-in-Err-Outlet-clause-part
+returns-in-Err-Outlet-clause-part g c = λ reads tells.
+    way_within _ _ _ _ _ _ _ _ _ _ _ _ _ _ _ c.loop-event.invariant.way reads tells (c.in-Got.ensures.reads reads) (c.in-Err-Outlet.ensures.part tells)
+
+pub loop-event-preserved : goal.loop-event-preserved
+loop-event-preserved g c = record {
+  way = onward g.I.Source.tells g.P.Plant.tells (g.I.Source.rest c.args.input.now)
+      (c.loop-event.self.reader.held ++ g.I.Source.rest c.loop-event.input) (c.next.new.self.held ++ g.I.Source.rest c.next.new.input)
+      (sent (g.P.Plant.story c.args.plant.now)) (sent (g.P.Plant.story c.loop-event.plant)) (sent (g.P.Plant.story c.pass.new.plant))
+      (content (g.P.Plant.story c.loop-event.plant)) (content (g.P.Plant.story c.pass.new.plant))
+      c.loop-event.self.reader.offset c.next.new.self.offset c.loop-event.self.core c.pass.new.core c.loop-event.self.journal c.pass.new.journal
+      c.loop-event.self.gate c.pass.new.self c.in-Got.event
+      c.loop-event.invariant.way c.in-Got.ensures.reads c.in-Got.ensures.advance.0 c.in-Got.ensures.advance.1
+      c.in-Ok.ensures.state c.in-Ok.ensures.counts c.in-Ok.ensures.sent c.in-Ok.ensures.log c.in-Ok.ensures.size c.in-Ok.ensures.stands;
+  input_later = omega (arith, c.loop-event.invariant.input_later, c.in-Got.ensures.later);
+  disk_later = omega (arith, c.loop-event.invariant.disk_later, c.in-Ok.ensures.disk_later);
+  outlet_later = omega (arith, c.loop-event.invariant.outlet_later, c.in-Ok.ensures.outlet_later);
+}

@@ -1,0 +1,19 @@
+use Rattle.std.proofs.Common.{◌≤◌, ◌-◌, ◌++◌}
+use Rattle.plant_io.specs.Story.{content, sent}
+use Rattle.aftr_engine.specs.session.UnderWay.{IsUnderWay}
+use Rattle.aftr_engine.proofs.session.Session.run.Given as goal
+
+-- the records so far account for all that was done
+abbrev pub invariant-loop-event : goal.invariant-loop-event
+invariant-loop-event g l = record {
+  way : IsUnderWay g.I.Source.tells g.P.Plant.tells (g.I.Source.rest l.fn.input) (l.self.reader.held ++ g.I.Source.rest l.input)
+      (sent (g.P.Plant.story l.fn.plant)) (sent (g.P.Plant.story l.plant)) (content (g.P.Plant.story l.plant))
+      l.self.reader.offset l.self.core l.self.journal l.self.gate;
+  input_later : g.I.Source.faults l.fn.input ≤ g.I.Source.faults l.input;
+  disk_later : g.P.Plant.disk_faults l.fn.plant ≤ g.P.Plant.disk_faults l.plant;
+  outlet_later : g.P.Plant.out_faults l.fn.plant ≤ g.P.Plant.out_faults l.plant;
+}
+
+-- each record ends further on, and none past the limit of 2^50 bytes
+abbrev pub decreases-loop-event : goal.decreases-loop-event
+decreases-loop-event g l = 1125899906842625 - l.self.reader.offset

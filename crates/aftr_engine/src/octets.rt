@@ -1,0 +1,40 @@
+//! Numbers in network order (RFC 791, Appendix B).
+ghost use Rattle.std.specs.Prelude.{◌≡◌, ◌+◌, ◌≤◌, length};
+ghost use Rattle.aftr_base.specs.Bytes.{u16_at, u32_at, u128_at};
+ghost use Rattle.aftr_base.specs.Checksum.{address_words};
+
+use aftr_base::Ip4;
+
+/// The 16-bit number whose two bytes begin at the offset.
+pub(crate) fn u16_in(bytes: &[u8], at: usize) -> u16
+    requires room { at + 2 ≤ length bytes.now }
+    ensures { result ≡ u16_at at bytes.now }
+{
+    u16::from_be_bytes([bytes[at], bytes[at + 1]])
+}
+
+/// The 32-bit number whose four bytes begin at the offset.
+pub(crate) fn u32_in(bytes: &[u8], at: usize) -> u32
+    requires room { at + 4 ≤ length bytes.now }
+    ensures { result ≡ u32_at at bytes.now }
+{
+    u32::from_be_bytes([bytes[at], bytes[at + 1], bytes[at + 2], bytes[at + 3]])
+}
+
+/// The 128-bit number whose 16 bytes begin at the offset.
+pub(crate) fn u128_in(bytes: &[u8], at: usize) -> u128
+    requires room { at + 16 ≤ length bytes.now }
+    ensures { result ≡ u128_at at bytes.now }
+{
+    match <[u8; 16]>::try_from(&bytes[at..at + 16]) {
+        Ok(part) => u128::from_be_bytes(part),
+        Err(_) => unreachable!(),
+    }
+}
+
+/// The two 16-bit words of an address, the high one first.
+pub(crate) fn words_in(addr: Ip4) -> [u16; 2]
+    ensures { result ≡ address_words addr.0 }
+{
+    [(addr.0 / 65536) as u16, (addr.0 % 65536) as u16]
+}
