@@ -1,0 +1,107 @@
+//! A log file and an outlet file.
+ghost use Rattle.std.specs.Prelude.{[], ◌≤◌, length, IfOk};
+
+use crate::faults::{count_fault, opened};
+use plant_io::{Failed, Plant};
+use std::fs::{File, OpenOptions};
+use std::io;
+use std::io::Write;
+use std::os::unix::fs::FileExt;
+use std::rt::Files;
+
+/// A log file, and an outlet file that packets are written to. It tells no content, and counts the calls that failed on each.
+#[derive(Drop)]
+pub struct FilePlant {
+    log: Option<File>,
+    outlet: Option<File>,
+    disk_faults: u64,
+    out_faults: u64,
+}
+
+impl FilePlant {
+    /// The log at the first path, which is made where it is missing and else keeps its bytes, and the outlet at the second,
+    /// which starts empty. Where one can't be opened every call on it fails; so it does without a path, and then no file is
+    /// touched.
+    pub fn open(rt: &impl Files<File = File>, log: Option<&str>, outlet: Option<&str>) -> Self {
+        let log = match log {
+            Some(path) => open_log(rt, path).ok(),
+            None => None,
+        };
+        let outlet = match outlet {
+            Some(path) => File::create(rt, path).ok(),
+            None => None,
+        };
+        FilePlant {
+            log,
+            outlet,
+            disk_faults: 0,
+            out_faults: 0,
+        }
+    }
+}
+
+impl Plant for FilePlant {
+    ghost tells = { ⊥ };
+
+    ghost story = { λ plant. [] };
+
+    ghost disk_faults = { λ plant. plant.disk_faults };
+
+    ghost out_faults = { λ plant. plant.out_faults };
+
+    fn size(&mut self) -> Result<u64, Failed> {
+        count_fault(size_of(&self.log), &mut self.disk_faults)
+    }
+
+    fn read_at(&mut self, at: u64, buf: &mut [u8]) -> Result<usize, Failed> {
+        count_fault(read_from(&self.log, at, buf), &mut self.disk_faults)
+    }
+
+    fn write_at(&mut self, at: u64, bytes: &[u8]) -> Result<(), Failed> {
+        count_fault(write_to(&self.log, at, bytes), &mut self.disk_faults)
+    }
+
+    fn sync(&mut self) -> Result<(), Failed> {
+        count_fault(sync_file(&self.log), &mut self.disk_faults)
+    }
+
+    fn emit(&mut self, bytes: &[u8]) -> Result<(), Failed> {
+        count_fault(send(&self.outlet, bytes), &mut self.out_faults)
+    }
+}
+
+fn open_log(rt: &impl Files<File = File>, path: &str) -> io::Result<File> {
+    OpenOptions::new()
+        .read(true)
+        .write(true)
+        .create(true)
+        .open(rt, path)
+}
+
+fn size_of(file: &Option<File>) -> io::Result<u64> {
+    Ok(opened(file)?.metadata()?.len())
+}
+
+// Reads as many bytes as the buffer has room for, unless the file ends before.
+fn read_from(file: &Option<File>, at: u64, buf: &mut [u8]) -> io::Result<usize>
+    ensures { IfOk result (λ count. count ≤ length buf.new) }
+{
+    let left = size_of(file)?.saturating_sub(at);
+    let count = left.min(buf.len() as u64) as usize;
+    opened(file)?.read_exact_at(&mut buf[..count], at)?;
+    Ok(count)
+}
+
+fn write_to(file: &Option<File>, at: u64, bytes: &[u8]) -> io::Result<()> {
+    opened(file)?.write_all_at(bytes, at)
+}
+
+// A flush would leave the bytes in the system's memory.
+fn sync_file(file: &Option<File>) -> io::Result<()> {
+    opened(file)?.sync_data()
+}
+
+fn send(file: &Option<File>, bytes: &[u8]) -> io::Result<()> {
+    let mut file = opened(file)?;
+    file.write_all(bytes)
+}

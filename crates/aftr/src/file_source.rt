@@ -1,0 +1,49 @@
+//! A file that is read in order.
+ghost use Rattle.std.specs.Prelude.{[], ◌≤◌, length, IfOk};
+
+use crate::faults::{count_fault, opened};
+use plant_io::{Failed, Source};
+use std::fs::File;
+use std::io;
+use std::io::Read;
+use std::rt::Files;
+
+/// A file that is read in order, from its first byte on. It tells no content, and counts the reads that failed.
+#[derive(Drop)]
+pub struct FileSource {
+    file: Option<File>,
+    faults: u64,
+}
+
+impl FileSource {
+    /// The file at this path. Where it can't be opened every read fails; so it does without a path, and then no file is
+    /// touched.
+    pub fn open(rt: &impl Files<File = File>, path: Option<&str>) -> Self {
+        let file = match path {
+            Some(path) => File::open(rt, path).ok(),
+            None => None,
+        };
+        FileSource { file, faults: 0 }
+    }
+}
+
+impl Source for FileSource {
+    ghost tells = { ⊥ };
+
+    ghost taken = { λ source. [] };
+
+    ghost rest = { λ source. [] };
+
+    ghost faults = { λ source. source.faults };
+
+    fn read(&mut self, buf: &mut [u8]) -> Result<usize, Failed> {
+        count_fault(read_next(&self.file, buf), &mut self.faults)
+    }
+}
+
+fn read_next(file: &Option<File>, buf: &mut [u8]) -> io::Result<usize>
+    ensures { IfOk result (λ count. count ≤ length buf.new) }
+{
+    let mut file = opened(file)?;
+    file.read(buf)
+}

@@ -1,0 +1,119 @@
+//! The program: opens the files that the words name, makes the engine's one call and ends with its status.
+//! The report goes to standard output; nothing goes to standard error.
+#![tactic(auto)]
+
+ghost use Rattle.std.specs.Prelude.{◌≡◌, length, IfOk};
+ghost use Rattle.aftr_engine.specs.aftr_engine.Words.{input_count};
+
+mod ending;
+mod faults;
+mod file_plant;
+mod file_source;
+mod std_sink;
+#[cfg(test)]
+mod tests;
+
+use aftr_base::{NoMemory, Outcome, Status, Word};
+use aftr_engine::{Paths, aftr, paths_of};
+use ending::exit_status;
+use file_plant::FilePlant;
+use file_source::FileSource;
+use plant_io::Sink;
+use std::fs::File;
+use std::io::ErrorKind;
+use std::process::ExitCode;
+use std::rt::{Env, Files};
+use std::{env, io};
+use std_sink::StdSink;
+
+// The words after the program's own name. Where one isn't UTF-8 they are no command, and there are none.
+fn read_words<R: Env + AllocGlobal>(rt: &R) -> Result<Vec<Word>, NoMemory> {
+    let mut words = Vec::new(rt.alloc());
+    match env::args(rt) {
+        Ok(args) => {
+            for arg in args.skip(1) {
+                words.push(Word::from_string(arg))?;
+            }
+        }
+        Err(error) => {
+            if error.kind() == ErrorKind::OutOfMemory {
+                return Err(NoMemory);
+            }
+        }
+    }
+    Ok(words)
+}
+
+// The path that stands at this place among the words, where there is one.
+fn path_at(words: &[Word], at: Option<u8>) -> Option<&str> {
+    let word = words.get(usize::from(at?))?;
+    Some(word.as_str())
+}
+
+// One source for each input that the words name, in their order.
+fn open_inputs<R: Files<File = File> + AllocGlobal>(
+    rt: &R,
+    words: &[Word],
+    paths: Option<Paths>,
+) -> Result<Vec<FileSource>, NoMemory>
+    ensures count { IfOk result (λ inputs. length inputs.items ≡ input_count paths) }
+{
+    let mut inputs = Vec::new(rt.alloc());
+    let Some(paths) = paths else {
+        return Ok(inputs);
+    };
+    for number in 0..paths.count {
+        let path = path_at(words, paths.first.checked_add(number));
+        inputs.push(FileSource::open(rt, path))?;
+    }
+    Ok(inputs)
+}
+
+// Makes the call over the files that the words name. Words that are no command name none, and none is touched.
+fn call<R: Files<File = File> + AllocGlobal, S: Sink>(
+    rt: &R,
+    words: &[Word],
+    report: &mut S,
+) -> Result<Outcome, NoMemory> {
+    let paths = paths_of(words);
+    let mut inputs = open_inputs(rt, words, paths)?;
+    let (config, log, outlet) = match paths {
+        Some(paths) => (paths.config, paths.log, paths.outlet),
+        None => (None, None, None),
+    };
+    let mut config = FileSource::open(rt, path_at(words, config));
+    let mut plant = FilePlant::open(rt, path_at(words, log), path_at(words, outlet));
+    Ok(aftr(
+        rt.alloc(),
+        words,
+        &mut config,
+        inputs.as_mut_slice(),
+        &mut plant,
+        report,
+    ))
+}
+
+// Memory ran out before the call: the report says so, as the call itself would.
+fn report_no_memory<S: Sink>(report: &mut S) -> Status {
+    match report.write(b"fault NoMemory\n") {
+        Ok(()) => Status::NoMemory,
+        Err(_) => Status::OutFault,
+    }
+}
+
+fn run<R: Files<File = File> + Env + AllocGlobal, S: Sink>(
+    rt: &R,
+    report: &mut S,
+) -> Result<Outcome, NoMemory> {
+    let words = read_words(rt)?;
+    call(rt, &words, report)
+}
+
+fn main(rt: HostRuntime) -> ExitCode {
+    let mut report = StdSink::new(io::writer(&rt));
+    let status = match run(&rt, &mut report) {
+        Ok(outcome) => outcome.status,
+        Err(NoMemory) => report_no_memory(&mut report),
+    };
+    ExitCode::from(exit_status(&status))
+}

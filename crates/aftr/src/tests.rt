@@ -1,0 +1,112 @@
+//! What no clause says of the objects: which bytes reach the files, and which come back.
+
+use crate::file_plant::FilePlant;
+use crate::file_source::FileSource;
+use crate::std_sink::StdSink;
+use plant_io::{Failed, Plant, Sink, Source};
+use std::fs::File;
+use std::test::Fail;
+use std::{env, fs, process};
+
+// A path of this run's own, in the system's folder for temporary files.
+fn temporary(rt: &HostRuntime, name: &str) -> Result<String, Fail> {
+    let folder = env::temp_dir(rt)?;
+    let id = process::id(rt.process());
+    Ok(format!(in rt.alloc(); "{}/aftr-{id}-{name}", folder.as_str())?)
+}
+
+#[test]
+fn a_source_gives_its_file_in_order(rt: HostRuntime) -> Result<(), Fail> {
+    let path = temporary(&rt, "source")?;
+    fs::write(&rt, path.as_str(), b"abcde".as_slice())?;
+    let mut source = FileSource::open(&rt, Some(path.as_str()));
+    let mut buf = [0u8; 3];
+    assert_eq!(rt; source.read(&mut buf), Ok(3));
+    assert_eq!(rt; &buf, b"abc");
+    assert_eq!(rt; source.read(&mut buf), Ok(2));
+    assert_eq!(rt; &buf, b"dec");
+    assert_eq!(rt; source.read(&mut buf), Ok(0));
+    fs::remove_file(&rt, path.as_str())?;
+    Ok(())
+}
+
+#[test]
+fn a_source_without_a_file_fails(rt: HostRuntime) -> Result<(), Fail> {
+    let path = temporary(&rt, "missing")?;
+    let mut missing = FileSource::open(&rt, Some(path.as_str()));
+    let mut unnamed = FileSource::open(&rt, None);
+    let mut buf = [0u8; 3];
+    for _ in 0..2 {
+        assert_eq!(rt; missing.read(&mut buf), Err(Failed));
+        assert_eq!(rt; unnamed.read(&mut buf), Err(Failed));
+    }
+    assert!(rt; !fs::exists(&rt, path.as_str())?);
+    Ok(())
+}
+
+#[test]
+fn a_sink_writes_all_before_it_answers(rt: HostRuntime) -> Result<(), Fail> {
+    let path = temporary(&rt, "sink")?;
+    let mut sink = StdSink::new(File::create(&rt, path.as_str())?);
+    assert_eq!(rt; sink.write(b"one\n"), Ok(()));
+    assert_eq!(rt; sink.write(b""), Ok(()));
+    assert_eq!(rt; sink.write(b"two\n"), Ok(()));
+    let written = fs::read(&rt, path.as_str())?;
+    assert_eq!(rt; written.as_slice(), b"one\ntwo\n".as_slice());
+    let mut closed = StdSink::new(File::open(&rt, path.as_str())?);
+    assert_eq!(rt; closed.write(b"three\n"), Err(Failed));
+    fs::remove_file(&rt, path.as_str())?;
+    Ok(())
+}
+
+#[test]
+fn a_plant_keeps_its_log_and_empties_its_outlet(rt: HostRuntime) -> Result<(), Fail> {
+    let log = temporary(&rt, "log")?;
+    let outlet = temporary(&rt, "outlet")?;
+    let mut plant = FilePlant::open(&rt, Some(log.as_str()), Some(outlet.as_str()));
+    assert_eq!(rt; plant.size(), Ok(0));
+    assert_eq!(rt; plant.write_at(0, b"record"), Ok(()));
+    assert_eq!(rt; plant.write_at(3, b"all over"), Ok(()));
+    assert_eq!(rt; plant.sync(), Ok(()));
+    assert_eq!(rt; plant.emit(b"first "), Ok(()));
+    assert_eq!(rt; plant.emit(b"second"), Ok(()));
+    assert_eq!(rt; plant.size(), Ok(11));
+    let mut buf = [0u8; 4];
+    assert_eq!(rt; plant.read_at(1, &mut buf), Ok(4));
+    assert_eq!(rt; &buf, b"ecal");
+    assert_eq!(rt; plant.read_at(9, &mut buf), Ok(2));
+    assert_eq!(rt; &buf, b"eral");
+    assert_eq!(rt; plant.read_at(12, &mut buf), Ok(0));
+    assert_eq!(rt; plant.read_at(0, &mut []), Ok(0));
+    let sent = fs::read(&rt, outlet.as_str())?;
+    assert_eq!(rt; sent.as_slice(), b"first second".as_slice());
+
+    let mut again = FilePlant::open(&rt, Some(log.as_str()), Some(outlet.as_str()));
+    assert_eq!(rt; again.size(), Ok(11));
+    assert_eq!(rt; fs::read(&rt, outlet.as_str())?.len(), 0);
+    fs::remove_file(&rt, log.as_str())?;
+    fs::remove_file(&rt, outlet.as_str())?;
+    Ok(())
+}
+
+#[test]
+fn a_plant_without_files_fails(rt: HostRuntime) -> Result<(), Fail> {
+    let folder = temporary(&rt, "no-folder")?;
+    let inside = format!(in rt.alloc(); "{folder}/file")?;
+    let mut missing = FilePlant::open(&rt, Some(inside.as_str()), Some(inside.as_str()));
+    let mut unnamed = FilePlant::open(&rt, None, None);
+    assert_eq!(rt; answers(&mut missing), [Err(Failed); 5]);
+    assert_eq!(rt; answers(&mut unnamed), [Err(Failed); 5]);
+    Ok(())
+}
+
+// What each of the five calls answers.
+fn answers(plant: &mut FilePlant) -> [Result<(), Failed>; 5] {
+    [
+        plant.size().map(|_| ()),
+        plant.read_at(0, &mut [0u8; 4]).map(|_| ()),
+        plant.write_at(0, b"x"),
+        plant.sync(),
+        plant.emit(b"x"),
+    ]
+}

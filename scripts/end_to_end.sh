@@ -1,0 +1,231 @@
+#!/usr/bin/env bash
+# Runs the built program on files, and compares its status, its report, and the bytes of its outlet and log.
+# Usage: scripts/end_to_end.sh [PROGRAM]. The last line is 'N passed, M failed'.
+set -u
+top=$(cd "$(dirname "$0")/.." && pwd)
+program=$(realpath -m "${1:-$top/crates/aftr/out/aftr}")
+if [ ! -x "$program" ]; then
+    echo "no program at $program: run scripts/build.sh" >&2
+    exit 1
+fi
+
+folder=$(mktemp -d)
+trap 'rm -rf "$folder"' EXIT
+passed=0
+failed=0
+
+# ---- bytes
+
+# Prints the bytes that these hexadecimal digits spell.
+bytes() {
+    local digits="${*//[[:space:]]/}" at
+    for ((at = 0; at < ${#digits}; at += 2)); do
+        printf "\\x${digits:at:2}"
+    done
+}
+
+# The hexadecimal digits of a file's bytes, or 'missing'.
+digits_of() {
+    if [ -e "$1" ]; then
+        od -An -v -tx1 "$1" | tr -d ' \n'
+    else
+        printf missing
+    fi
+}
+
+# The same digits without the spaces that make them readable.
+plain() {
+    printf '%s' "${*//[[:space:]]/}"
+}
+
+# ---- packets
+
+# A subscriber sends "abcd" from 192.0.0.2 port 5000 to 203.0.113.5 port 53, in its softwire to the AFTR.
+first_packet="00000051 01 00000000000f4240 60000000 0020 04 40
+    20010db8010000000000000000000002 20010db8000000000000000000000001
+    45000020 00010000 40117ec4 c0000002 cb007105 13880035 000c2b4a 61626364"
+# It leaves from the pool's first place, 192.0.2.8 port 1024, with one hop less.
+first_sent="00000029 02 00000000000f4240
+    45000020 00010000 3f117dbe c0000208 cb007105 04000035 000c38cc 61626364"
+# The log: at this moment this prefix got ports 1024 to 1535 of 192.0.2.8.
+first_lease="00000000000f4240 10 20010db8010000000000000000000000 38 c0000208 0400 05ff"
+
+# Half a second later, from the same port to another remote.
+other_remote="00000051 01 00000000000f4434 60000000 0020 04 40
+    20010db8010000000000000000000002 20010db8000000000000000000000001
+    45000020 00010000 40117ec3 c0000002 cb007106 13880035 000c2b49 61626364"
+other_remote_sent="00000029 02 00000000000f4434
+    45000020 00010000 3f117dbd c0000208 cb007106 04000035 000c38cb 61626364"
+
+# The first packet in another subscriber's softwire.
+other_subscriber="00000051 01 00000000000f4241 60000000 0020 04 40
+    20010db8010001000000000000000002 20010db8000000000000000000000001
+    45000020 00010000 40117ec4 c0000002 cb007105 13880035 000c2b4a 61626364"
+other_subscriber_sent="00000029 02 00000000000f4241
+    45000020 00010000 3f117dbe c0000208 cb007105 06000035 000c36cc 61626364"
+other_subscriber_lease="00000000000f4241 10 20010db8010001000000000000000000 38 c0000208 0600 07ff"
+
+# The first packet without a UDP checksum, and with one that the translation would make 0.
+no_checksum="${first_packet/000c2b4a 61626364/000c0000 61626364}"
+no_checksum_sent="${first_sent/000c38cc 61626364/000c0000 61626364}"
+checksum_to_zero="${first_packet/000c2b4a 61626364/000cf27d 61629c30}"
+checksum_to_zero_sent="${first_sent/000c38cc 61626364/000cffff 61629c30}"
+
+# ---- cases
+
+# Starts a case in a folder of its own: an empty configuration and this input, in hexadecimal digits.
+start() {
+    name=$1
+    work="$folder/work"
+    rm -rf "$work"
+    mkdir "$work"
+    : > "$work/config.toml"
+    bytes "$2" > "$work/in0"
+}
+
+# Runs the program on these words, in the case's folder. Its report goes to the file $output.
+output=report
+run() {
+    (cd "$work" && "$program" "$@" > "$output" 2> errors)
+    status=$?
+    difference=""
+}
+
+# Notes a difference of this thing between what it is and what it should be.
+same() {
+    if [ "$2" != "$3" ]; then
+        difference+="    $1 is '$2' and should be '$3'"$'\n'
+    fi
+}
+
+# Ends a case by the status and the report that it should have, each of its lines given by itself.
+ends_with() {
+    same status "$status" "$1"
+    shift
+    # the point keeps the line feed at the end
+    same report "$(cat "$work/report" && echo .)" "$(printf '%s\n' "$@" .)"
+    same "standard error" "$(cat "$work/errors" && echo .)" .
+    count_case
+}
+
+# The case's outlet and log should hold these bytes.
+leaves() {
+    same outlet "$(digits_of "$work/out")" "$(plain "$1")"
+    same log "$(digits_of "$work/log")" "$(plain "$2")"
+}
+
+count_case() {
+    if [ -z "$difference" ]; then
+        passed=$((passed + 1))
+    else
+        failed=$((failed + 1))
+        printf 'failed: %s\n%s' "$name" "$difference"
+    fi
+}
+
+command=(run config.toml log out in0)
+
+start "one packet" "$first_packet"
+run "${command[@]}"
+leaves "$first_sent" "$first_lease"
+ends_with 0 "records 1" "sent 1" "marks 0"
+
+start "another remote gets the same place" "$first_packet $other_remote"
+run "${command[@]}"
+leaves "$first_sent $other_remote_sent" "$first_lease"
+ends_with 0 "records 2" "sent 2" "marks 0"
+
+start "another subscriber gets the next block" "$first_packet $other_subscriber"
+run "${command[@]}"
+leaves "$first_sent $other_subscriber_sent" "$first_lease $other_subscriber_lease"
+ends_with 0 "records 2" "sent 2" "marks 0"
+
+start "no UDP checksum stays none" "$no_checksum"
+run "${command[@]}"
+leaves "$no_checksum_sent" "$first_lease"
+ends_with 0 "records 1" "sent 1" "marks 0"
+
+start "a UDP checksum of 0 is sent as ffff" "$checksum_to_zero"
+run "${command[@]}"
+leaves "$checksum_to_zero_sent" "$first_lease"
+ends_with 0 "records 1" "sent 1" "marks 0"
+
+start "an input of no bytes" ""
+run "${command[@]}"
+leaves "" ""
+ends_with 0 "records 0" "sent 0" "marks 0"
+
+start "an outlet starts empty" ""
+bytes "$first_sent" > "$work/out"
+run "${command[@]}"
+leaves "" ""
+ends_with 0 "records 0" "sent 0" "marks 0"
+
+start "an input cut short" "$first_packet ${other_remote% *}"
+run "${command[@]}"
+leaves "$first_sent" "$first_lease"
+ends_with 3 "fault BadInput 0 85"
+
+start "a configuration that is no text of keys" "$first_packet"
+printf x > "$work/config.toml"
+run "${command[@]}"
+leaves "" ""
+ends_with 2 "fault BadConfig text"
+
+start "a log that has bytes" "$first_packet"
+bytes "$first_lease" > "$work/log"
+run "${command[@]}"
+leaves "" "$first_lease"
+ends_with 9 "fault AlreadyThere 34"
+
+start "a missing input" "$first_packet"
+run run config.toml log out nowhere
+leaves "" ""
+ends_with 4 "fault ReadFault"
+
+start "a missing configuration" "$first_packet"
+run run nowhere log out in0
+leaves "" ""
+ends_with 4 "fault ReadFault"
+
+start "a log that can't be opened" "$first_packet"
+run run config.toml nowhere/log out in0
+leaves "" missing
+ends_with 5 "fault LogFault"
+
+# Words that are no command touch no file.
+for words in "run a b c" "--help" "" "walk config.toml log out in0" "run config.toml log out -"; do
+    start "no command: '$words'" "$first_packet"
+    # shellcheck disable=SC2086
+    run $words
+    same files "$(ls "$work" | tr '\n' ' ')" "config.toml errors in0 report "
+    ends_with 1 "fault BadWords"
+done
+
+start "no command: an empty word" "$first_packet"
+run run config.toml log out ""
+leaves missing missing
+ends_with 1 "fault BadWords"
+
+start "no command: a word that isn't UTF-8" "$first_packet"
+run run config.toml log out $'in\xff'
+leaves missing missing
+ends_with 1 "fault BadWords"
+
+# A full device takes no byte: what is lost there is a fault of the outlet or of the report.
+if [ -w /dev/full ]; then
+    start "an outlet that fails" "$first_packet"
+    run run config.toml log /dev/full in0
+    same status "$status" 6
+    same log "$(digits_of "$work/log")" "$(plain "$first_lease")"
+    count_case
+
+    start "a report that fails" "$first_packet"
+    output=/dev/full run "${command[@]}"
+    same status "$status" 6
+    leaves "$first_sent" "$first_lease"
+    count_case
+fi
+
+echo "$passed passed, $failed failed"
+[ "$failed" -eq 0 ]
