@@ -76,7 +76,7 @@ checksum_to_zero_sent="${first_sent/000c38cc 61626364/000cffff 61629c30}"
 # Starts a case in a folder of its own: an empty configuration and this input, in hexadecimal digits.
 start() {
     name=$1
-    work="$folder/work"
+    work="$folder/files"
     rm -rf "$work"
     mkdir "$work"
     : > "$work/config.toml"
