@@ -1,5 +1,7 @@
 //! A vector that contracts see as a list.
-ghost use Rattle.std.specs.Prelude.{◌≡◌, ◌++◌, ◌↔◌, [], ◌∷◌, length, IsTrue, IfOk, OnOk, OnErr};
+ghost use Rattle.std.specs.Prelude.{◌≡◌, ◌<◌, ◌++◌, ◌↔◌, [], ◌∷◌, length, set, IsTrue, IfOk, OnOk, OnErr};
+ghost use Rattle.std.specs.Fn.{CalledAt};
+ghost use Rattle.std.specs.List.Retain.{IsFiltered};
 
 use crate::memory::NoMemory;
 use std::alloc::Global;
@@ -88,6 +90,26 @@ impl<T> List<T> {
     {
         self.items.extend_from_slice(more)?;
         Ok(())
+    }
+
+    /// Puts a value in the place of the element at an index.
+    pub fn set(&mut self, at: usize, value: T)
+    where
+        T: Drop,
+        requires { at < length self.old }
+        ensures { self.new ≡ set self.old at value }
+    {
+        self.items[at] = value;
+    }
+
+    /// Keeps the elements that pass the test, in their order. It takes no memory.
+    pub fn retain<F: FnMut(&T) -> bool>(&mut self, keep: F)
+    where
+        T: Drop,
+        requires { F.IsAlwaysCallable keep }
+        ensures { IsFiltered (CalledAt F.FnMut) keep self.old self.new }
+    {
+        self.items.retain(keep);
     }
 
     /// Lets the elements go and keeps their room.
