@@ -1,14 +1,21 @@
-pub mod ReadyDatagrams
 mod ReportRows
 mod WindowSteps
 mod WorkedRows
+pub mod Closings
 pub mod Counts
 pub mod Forwarding
 pub mod FrameSteps
 pub mod Lines
+pub mod Numbers
+pub mod Peers
+pub mod ReadyDatagrams
 pub mod Reasons
+pub mod Records
 pub mod RunSteps
 pub mod Runs
 pub mod Searches
 pub mod Sending
+pub mod Spelled
+pub mod StopSteps
+pub mod ToldSteps
 pub mod Writes

@@ -1,57 +1,108 @@
--- Why a call ends as it does, from why its run did.
-use Rattle.std.proofs.Common.{◌≡◌, ◌≢◌, inl, inr, ℕ, ◌<◌, Bool, true, false, cond, List, [], ◌∷◌, ◌++◌, length, get_or, refl, sym, ap, ◌∙◌, subst, arith}
-use Rattle.std.specs.Prelude.{Option, None, Some}
+-- Why a call ends as it does, from why its command did.
+use Rattle.std.proofs.Common.{◌≡◌, ◌≢◌, inl, inr, ℕ, ◌<◌, List, [], ◌∷◌, ◌++◌, length, get_or, refl, sym, ap, ◌∙◌, subst, arith}
+use Rattle.std.specs.Prelude.{Option, None, Some, option_map}
 use Rattle.std.proofs.Math.ListN.{set}
 use Rattle.aftr_base.specs.declared.outcome.Status.{Status}
 use Rattle.aftr_base.specs.declared.outcome.Status.TheVariants.{Ok, BadWords, BadConfig, BadInput, ReadFault, LogFault, OutFault, LogDamaged, LogFull, AlreadyThere, NoMemory}
-use Rattle.aftr_engine.specs.declared.words.Paths.{Paths}
+use Rattle.aftr_engine.specs.declared.words.Command.{Command}
+use Rattle.aftr_engine.specs.declared.words.Command.TheVariants.{Run}
+use Rattle.aftr_engine.specs.declared.engine.Answer.{Answer}
 use Rattle.aftr_engine.specs.declared.tally.Tally.{Tally}
-use Rattle.aftr_engine.specs.aftr_engine.Causes.{at_first, Counts, IsCommand, HasReason, IsReported, Prints}
+use Rattle.aftr_engine.specs.aftr_engine.Causes.{at_first, Counts, IsCommand, IsRun, IsQuery, HasReason, IsFaultless, IsWhole, EndsWith, IsReported, Prints}
+use Rattle.aftr_engine.specs.link_records.Frames.{Stop, AtEnd}
 use Rattle.aftr_engine.specs.aftr_engine.Report.{fault_line}
-use Rattle.aftr_engine.specs.aftr_engine.Words.{run_paths, paths_in, paths_for, input_count}
-use Rattle.aftr_engine.specs.engine.Ended.{RunReason}
+use Rattle.aftr_engine.specs.aftr_engine.Words.{paths_with, paths_for, command_for, input_count}
+use Rattle.aftr_engine.specs.engine.Ended.{RunReason, QueryReason}
 
 -- what a fault prints
-pub prints_fault : (past now : List ℕ) (t : Tally) (status : Status) → status ≢ Ok → status ≢ OutFault → now ≡ past ++ fault_line status → Prints past now t status
-prints_fault past now t Ok some h e = absurd (some refl)
-prints_fault past now t BadWords some h e = e
-prints_fault past now t (BadConfig key) some h e = e
-prints_fault past now t (BadInput input offset) some h e = e
-prints_fault past now t ReadFault some h e = e
-prints_fault past now t LogFault some h e = e
-prints_fault past now t OutFault some h e = absurd (h refl)
-prints_fault past now t (LogDamaged offset) some h e = e
-prints_fault past now t (LogFull tail need limit) some h e = e
-prints_fault past now t (AlreadyThere size) some h e = e
-prints_fault past now t NoMemory some h e = e
+pub prints_fault : (past now : List ℕ) (t : Tally) (a : Answer) (status : Status) → status ≢ Ok → status ≢ OutFault → now ≡ past ++ fault_line status → Prints past now t a status
+prints_fault past now t a Ok some h e = absurd (some refl)
+prints_fault past now t a BadWords some h e = e
+prints_fault past now t a (BadConfig key) some h e = e
+prints_fault past now t a (BadInput input offset) some h e = e
+prints_fault past now t a ReadFault some h e = e
+prints_fault past now t a LogFault some h e = e
+prints_fault past now t a OutFault some h e = absurd (h refl)
+prints_fault past now t a (LogDamaged offset) some h e = e
+prints_fault past now t a (LogFull tail need limit) some h e = e
+prints_fault past now t a (AlreadyThere size) some h e = e
+prints_fault past now t a NoMemory some h e = e
 
-ran : (paths : Option Paths) (c : Counts) (C P : Type 0) (config log : List ℕ) (was : Status) → IsCommand paths
+run_is_command : (command : Option Command) → IsRun command → IsCommand command
+run_is_command None is = absurd is
+run_is_command (Some c) is = λ e. absurd (cc)
+
+query_is_command : (command : Option Command) → IsQuery command → IsCommand command
+query_is_command None is = absurd is
+query_is_command (Some c) is = λ e. absurd (cc)
+
+ran : (command : Option Command) (c : Counts) (C P : Type 0) (config log : List ℕ) (was : Status) → IsRun command
     → RunReason C config P log c.config.before c.config.after c.input.before c.input.after c.disk.before c.disk.after c.outlet.before c.outlet.after was
-    → HasReason paths c was
-ran paths c C P config log Ok command why = command
-ran paths c C P config log BadWords command why = absurd why
-ran paths c C P config log (BadConfig key) command why = (command, why.0)
-ran paths c C P config log (BadInput input offset) command why = (command, why.0)
-ran paths c C P config log ReadFault command (inl rose) = (command, inl rose)
-ran paths c C P config log ReadFault command (inr rest) = (command, inr rest.2)
-ran paths c C P config log LogFault command why = (command, why.1)
-ran paths c C P config log OutFault command why = inr (command, why.2)
-ran paths c C P config log (LogDamaged offset) command why = why
-ran paths c C P config log (LogFull tail need limit) command why = why
-ran paths c C P config log (AlreadyThere size) command why = (command, why.1)
-ran paths c C P config log NoMemory command why = command
+    → HasReason command c was
+ran command c C P config log Ok is why = run_is_command command is
+ran command c C P config log BadWords is why = absurd why
+ran command c C P config log (BadConfig key) is why = (is, why.0)
+ran command c C P config log (BadInput input offset) is why = (is, why.0)
+ran command c C P config log ReadFault is (inl rose) = (is, inl rose)
+ran command c C P config log ReadFault is (inr rest) = (is, inr rest.2)
+ran command c C P config log LogFault is why = (run_is_command command is, why.1)
+ran command c C P config log OutFault is why = inr (is, why.2)
+ran command c C P config log (LogDamaged offset) is why = absurd why
+ran command c C P config log (LogFull tail need limit) is why = why
+ran command c C P config log (AlreadyThere size) is why = (is, why.1)
+ran command c C P config log NoMemory is why = run_is_command command is
 
-reported_as : (paths : Option Paths) (c : Counts) (was now : Status) → IsReported was c.report now → HasReason paths c was → HasReason paths c now
-reported_as paths c was now (inl same) why = subst (HasReason paths c) (sym same) why
-reported_as paths c was now (inr (failed, rose)) why = subst (HasReason paths c) (sym failed) (inl rose)
+asked : (command : Option Command) (c : Counts) (was : Status) → IsQuery command → QueryReason c.disk.before c.disk.after was → HasReason command c was
+asked command c Ok is why = query_is_command command is
+asked command c BadWords is why = absurd why
+asked command c (BadConfig key) is why = absurd why
+asked command c (BadInput input offset) is why = absurd why
+asked command c ReadFault is why = absurd why
+asked command c LogFault is why = (query_is_command command is, why)
+asked command c OutFault is why = absurd why
+asked command c (LogDamaged offset) is why = is
+asked command c (LogFull tail need limit) is why = why
+asked command c (AlreadyThere size) is why = absurd why
+asked command c NoMemory is why = query_is_command command is
 
-pub reason_run : (paths : Option Paths) (c : Counts) (C P : Type 0) (config log : List ℕ) (was now : Status) → IsCommand paths
+reported_as : (command : Option Command) (c : Counts) (was now : Status) → IsReported was c.report now → HasReason command c was → HasReason command c now
+reported_as command c was now (inl same) why = subst (HasReason command c) (sym same) why
+reported_as command c was now (inr (failed, rose)) why = subst (HasReason command c) (sym failed) (inl rose)
+
+pub reason_run : (command : Option Command) (c : Counts) (C P : Type 0) (config log : List ℕ) (was now : Status) → command ≡ Some Run
     → RunReason C config P log c.config.before c.config.after c.input.before c.input.after c.disk.before c.disk.after c.outlet.before c.outlet.after was
-    → IsReported was c.report now → HasReason paths c now
-reason_run paths c C P config log was now command why reported = reported_as paths c was now reported (ran paths c C P config log was command why)
+    → IsReported was c.report now → HasReason command c now
+reason_run command c C P config log was now is why reported =
+    reported_as command c was now reported (ran command c C P config log was (subst IsRun (sym is) tt) why)
 
-pub reason_words : (paths : Option Paths) (c : Counts) (was now : Status) → paths ≡ None → was ≡ BadWords → IsReported was c.report now → HasReason paths c now
-reason_words paths c was now none bad reported = reported_as paths c was now reported (subst (HasReason paths c) (sym bad) none)
+pub reason_query : (command : Option Command) (c : Counts) (was now : Status) → IsQuery command → QueryReason c.disk.before c.disk.after was → IsReported was c.report now → HasReason command c now
+reason_query command c was now is why reported = reported_as command c was now reported (asked command c was is why)
+
+pub reason_words : (command : Option Command) (c : Counts) (was now : Status) → command ≡ None → was ≡ BadWords → IsReported was c.report now → HasReason command c now
+reason_words command c was now none bad reported = reported_as command c was now reported (subst (HasReason command c) (sym bad) none)
+
+ended_whole : (c : Counts) (C P : Type 0) (config log : List ℕ) (stop : Stop) (was : Status) → C → P → config ≡ [] → log ≡ [] → stop ≡ AtEnd → IsFaultless c
+    → RunReason C config P log c.config.before c.config.after c.input.before c.input.after c.disk.before c.disk.after c.outlet.before c.outlet.after was
+    → EndsWith stop was → IsWhole was
+ended_whole c C P config log stop Ok configs tells none empty end faultless why ends = tt
+ended_whole c C P config log stop BadWords configs tells none empty end faultless why ends = absurd why
+ended_whole c C P config log stop (BadConfig key) configs tells none empty end faultless why ends = absurd (omega (arith, why.1 configs, ap length none))
+ended_whole c C P config log stop (BadInput input offset) configs tells none empty end faultless why ends = absurd (cc (end, ends))
+ended_whole c C P config log stop ReadFault configs tells none empty end faultless (inl rose) ends = absurd (faultless.config rose)
+ended_whole c C P config log stop ReadFault configs tells none empty end faultless (inr rest) ends = absurd (faultless.input rest.2)
+ended_whole c C P config log stop LogFault configs tells none empty end faultless why ends = absurd (faultless.disk why.1)
+ended_whole c C P config log stop OutFault configs tells none empty end faultless why ends = absurd (faultless.outlet why.2)
+ended_whole c C P config log stop (LogDamaged offset) configs tells none empty end faultless why ends = absurd why
+ended_whole c C P config log stop (LogFull tail need limit) configs tells none empty end faultless why ends = absurd why
+ended_whole c C P config log stop (AlreadyThere size) configs tells none empty end faultless why ends = absurd (omega (arith, why.1, why.2 tells, ap length empty))
+ended_whole c C P config log stop NoMemory configs tells none empty end faultless why ends = tt
+
+pub complete_run : (c : Counts) (C P : Type 0) (config log : List ℕ) (stop : Stop) (was now : Status) → C → P → config ≡ [] → log ≡ [] → stop ≡ AtEnd → IsFaultless c
+    → RunReason C config P log c.config.before c.config.after c.input.before c.input.after c.disk.before c.disk.after c.outlet.before c.outlet.after was
+    → EndsWith stop was → IsReported was c.report now → IsWhole now
+complete_run c C P config log stop was now configs tells none empty end faultless why ends (inl same) =
+    subst IsWhole (sym same) (ended_whole c C P config log stop was configs tells none empty end faultless why ends)
+complete_run c C P config log stop was now configs tells none empty end faultless why ends (inr (failed, rose)) = absurd (faultless.report rose)
 
 -- the first of a list
 pub first_is : {A B : Type 0} (d : B) (f : A → B) (xs : List A) (x : A) → 0 < length xs → at_first d f xs ≡ f (get_or xs 0 x)
@@ -62,26 +113,7 @@ pub first_set : {A B : Type 0} (d : B) (f : A → B) (xs : List A) (x : A) → 0
 first_set d f [] x some = absurd (omega arith)
 first_set d f (y ∷ xs) x some = refl
 
--- a command's words name one input
-by_name : (b : Bool) (p : Paths) → cond b (Some run_paths) None ≡ Some p → p.count ≡ 1
-by_name true p e = let same : run_paths ≡ p = cc in ap (λ (q : Paths). q.count) (sym same)
-by_name false p e = absurd (cc)
-
-in_words : (words : List (List ℕ)) (p : Paths) → paths_in words ≡ Some p → p.count ≡ 1
-in_words [] p e = absurd (cc)
-in_words (a ∷ []) p e = absurd (cc)
-in_words (a ∷ b ∷ []) p e = absurd (cc)
-in_words (a ∷ b ∷ c ∷ []) p e = absurd (cc)
-in_words (a ∷ b ∷ c ∷ d ∷ []) p e = absurd (cc)
-in_words (a ∷ b ∷ c ∷ d ∷ i ∷ []) p e = by_name _ p e
-in_words (a ∷ b ∷ c ∷ d ∷ i ∷ j ∷ more) p e = absurd (cc)
-
-not_odd : (b : Bool) (words : List (List ℕ)) (p : Paths) → cond b None (paths_in words) ≡ Some p → p.count ≡ 1
-not_odd true words p e = absurd (cc)
-not_odd false words p e = in_words words p e
-
-pub some_input : (words : List (List ℕ)) (p : Paths) (count : ℕ) → paths_for words ≡ Some p → count ≡ input_count (paths_for words) → 0 < count
-some_input words p count e same =
-    let one : p.count ≡ 1 = not_odd _ words p e in
-    let here : count ≡ p.count = same ∙ ap input_count e in
-    omega (arith, one, here)
+-- a run's words name one input
+pub some_input : (words : List (List ℕ)) (count : ℕ) → command_for words ≡ Some Run → count ≡ input_count (paths_for words) → 0 < count
+some_input words count is same =
+    let one : count ≡ 1 = same ∙ ap (λ (o : Option Command). input_count (option_map paths_with o)) is in omega (arith, one)

@@ -1,5 +1,5 @@
 -- How a run under way goes on and ends.
-use Rattle.std.proofs.Common.{◌≡◌, inl, inr, ℕ, ◌+◌, ◌*◌, ◌≤◌, ◌<◌, ◌^◌, List, [], ◌∷◌, ◌++◌, length, take, refl, sym, ap, ◌∙◌, arith, append_assoc, length-append}
+use Rattle.std.proofs.Common.{◌≡◌, inl, inr, ℕ, ◌+◌, ◌≤◌, ◌<◌, ◌^◌, List, [], ◌∷◌, ◌++◌, length, take, refl, sym, ap, ◌∙◌, arith, append_assoc, length-append}
 use Rattle.std.specs.Prelude.{None, option_to_list}
 use Rattle.std.proofs.lemmas.Bool.{cases_lt}
 use Rattle.std.proofs.lemmas.Grind.{flat_map-append}
@@ -15,10 +15,9 @@ use Rattle.aftr_engine.specs.link_records.Frames.{Input, Stop, AtEnd, BadAt, sto
 use Rattle.aftr_engine.specs.link_records.Reader.{Reads}
 use Rattle.aftr_engine.specs.xlate_core.State.{State, Step}
 use Rattle.aftr_engine.specs.xlate_core.Step.{step}
-use Rattle.aftr_engine.specs.xlate_core.Run.{run, start, first_run}
+use Rattle.aftr_engine.specs.xlate_core.Run.{run, start, first_run, logged_by}
 use Rattle.aftr_engine.specs.egress_gate.Counting.{HasCounted, AreFew, IsZero}
-use Rattle.aftr_engine.specs.aftr_engine.Output.{output, item_bytes, record_log}
-use Rattle.aftr_engine.specs.nat_events.Spelling.{opening_record}
+use Rattle.aftr_engine.specs.aftr_engine.Output.{output, item_bytes}
 use Rattle.aftr_engine.specs.aftr_engine.Report.{drop_counts}
 use Rattle.aftr_engine.specs.aftr_engine.EndToEnd.{output_of, log_of}
 use Rattle.aftr_engine.specs.aftr_engine.Progress.{HasRun, HasSent, HasRead, with_events}
@@ -26,7 +25,7 @@ use Rattle.aftr_engine.specs.session.Begun.{TalliesAs}
 use Rattle.aftr_engine.specs.session.UnderWay.{IsUnderWay}
 use Rattle.aftr_engine.proofs.Counts.{counts_fit}
 use Rattle.aftr_engine.proofs.FrameSteps.{next_record, no_record}
-use Rattle.aftr_engine.proofs.Runs.{run_push, items_front, small_step, short_run}
+use Rattle.aftr_engine.proofs.Runs.{run_push, items_front, short_log, short_run}
 
 -- ---- at the start
 
@@ -46,7 +45,7 @@ begun I P input left past now log offset state size t all first here none zero s
 
 -- ---- one record more
 
-read_on : (input left left' : List ℕ) (offset offset' : ℕ) (seen : List Event) (e : Event)
+pub read_on : (input left left' : List ℕ) (offset offset' : ℕ) (seen : List Event) (e : Event)
     → HasRead seen input offset left → Reads offset left offset' left' (Got e) → HasRead (seen ++ e ∷ []) input offset' left'
 read_on input left left' offset offset' seen e before got =
     let next : frames_from offset left ≡ record (frames_from offset' left') { events = e ∷ (frames_from offset' left').events } =
@@ -73,7 +72,7 @@ ran_on seen e s s' t t' before moved counted =
     }
 
 sent_on : (seen : List Event) (e : Event) (s : State) (past now now' log log' : List ℕ)
-    → s ≡ (first_run seen).state → HasSent seen past now log → now' ≡ now ++ output (step s e).items → log' ≡ log ++ record_log (step s e).openings
+    → s ≡ (first_run seen).state → HasSent seen past now log → now' ≡ now ++ output (step s e).items → log' ≡ log ++ logged_by (step s e)
     → HasSent (seen ++ e ∷ []) past now' log'
 sent_on seen e s past now now' log log' here before sent logged =
     let more = run_push (start defaults) seen e in
@@ -84,29 +83,28 @@ sent_on seen e s past now now' log log' here before sent logged =
           ∙ ap (λ (x : Step). past ++ (output (first_run seen).items ++ output x.items)) same
           ∙ ap (λ (l : List ℕ). past ++ l) (sym (flat_map-append item_bytes (first_run seen).items (step (first_run seen).state e).items))
           ∙ ap (λ (l : List Item). past ++ output l) (sym more.items);
-      leases = logged ∙ ap (λ (l : List ℕ). l ++ record_log (step s e).openings) before.leases
-          ∙ ap (λ (x : Step). record_log (first_run seen).openings ++ record_log x.openings) same
-          ∙ sym (flat_map-append opening_record (first_run seen).openings (step (first_run seen).state e).openings)
-          ∙ ap record_log (sym more.openings);
+      leases = logged ∙ ap (λ (l : List ℕ). l ++ logged_by (step s e)) before.leases
+          ∙ ap (λ (x : Step). (first_run seen).log ++ logged_by x) same
+          ∙ sym more.log;
     }
 
 pub onward : (I P : Type 0) (input left left' past now now' log log' : List ℕ) (offset offset' : ℕ) (s s' : State) (size size' : ℕ) (t t' : Tally) (e : Event)
     → IsUnderWay I P input left past now log offset s size t
     → (I → Reads offset left offset' left' (Got e)) → offset + 13 ≤ offset' → offset' ≤ input_limit
     → s' ≡ (step s e).state → HasCounted (step s e) t t'
-    → (P → now' ≡ now ++ output (step s e).items) → (P → log' ≡ log ++ record_log (step s e).openings)
-    → size' ≡ size + 34 * length (step s e).openings → (P → size' ≡ length log')
+    → (P → now' ≡ now ++ output (step s e).items) → (P → log' ≡ log ++ logged_by (step s e))
+    → size' ≡ size + length (logged_by (step s e)) → (P → size' ≡ length log')
     → IsUnderWay I P input left' past now' log' offset' s' size' t'
 onward I P input left left' past now now' log log' offset offset' s s' size size' t t' e way got far limit moved counted sent logged grew stands =
-    let one = small_step s e in
+    let one = short_log s e in
     record {
       seen = way.seen ++ e ∷ [];
       run = ran_on way.seen e s s' t t' way.run moved counted;
       read = λ tells. read_on input left left' offset offset' way.seen e (way.read tells) (got tells);
       done = λ tells. sent_on way.seen e s past now now' log log' way.run.reaches (way.done tells) (sent tells) (logged tells);
       stands = stands;
-      few = omega (arith, length-append way.seen (e ∷ []), way.few);
-      small = omega (arith, length-append way.seen (e ∷ []), way.small, one.openings);
+      few = omega (arith, length-append way.seen (e ∷ []), way.few, far);
+      small = omega (arith, length-append way.seen (e ∷ []), way.small, one);
       within = limit;
     }
 
@@ -122,7 +120,7 @@ are_few I P input left past now log offset s size t way =
     }
 
 pub has_room : (I P : Type 0) (input left past now log : List ℕ) (offset : ℕ) (s : State) (size : ℕ) (t : Tally)
-    → IsUnderWay I P input left past now log offset s size t → size < 2 ^ 60
+    → IsUnderWay I P input left past now log offset s size t → size < 2 ^ 62
 has_room I P input left past now log offset s size t way = omega (arith, way.small, way.few, way.within)
 
 -- ---- the end
@@ -147,7 +145,7 @@ at_bad left offset none some = no_record offset left none ∙ ap (λ (s : Stop).
 pub all_sent : (input past now log : List ℕ) (seen : List Event) → (frames_of input).events ≡ seen → HasSent seen past now log → (now ≡ past ++ output_of input) × (log ≡ log_of input)
 all_sent input past now log seen whole done = (
   done.packets ∙ ap (λ (es : List Event). past ++ output (first_run es).items) (sym whole),
-  done.leases ∙ ap (λ (es : List Event). record_log (first_run es).openings) (sym whole),
+  done.leases ∙ ap (λ (es : List Event). (first_run es).log) (sym whole),
 )
 
 pub all_counted : (input : List ℕ) (seen : List Event) (s : State) (t : Tally) → (frames_of input).events ≡ seen → HasRun seen s t.records t.sent t.drops.0 → TalliesAs input t

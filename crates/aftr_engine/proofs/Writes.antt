@@ -41,3 +41,12 @@ pub part_written : (text piece rest before now later : List ℕ) → SoFar text 
 part_written text piece rest before now later s part =
     subst (λ (xs : List ℕ). GainsPart xs before later) (sym s.left)
     (part_of_second s.done (piece ++ rest) before now later s.gained (part_of_first piece rest now later part))
+
+-- the next piece was written whole
+pub piece_written : (text piece rest before now later : List ℕ) → SoFar text (piece ++ rest) before now
+    → later ≡ now ++ piece → SoFar text rest before later
+piece_written text piece rest before now later s written = record {
+  done = s.done ++ piece;
+  gained = both s.done piece before now later s.gained written;
+  left = s.left ∙ sym (append_assoc s.done piece rest);
+}

@@ -8,6 +8,8 @@ pub mod subscriber_table
 pub mod port_blocks
 pub mod nat_mapping
 pub mod nat_events
+pub mod lease_log
+pub mod trace_query
 pub mod xlate_core
 pub mod egress_gate
 pub mod aftr_engine

@@ -4,3 +4,4 @@ pub mod Report
 pub mod Causes
 pub mod Progress
 pub mod EndToEnd
+pub mod Stops

@@ -3,6 +3,8 @@ pub mod Receive
 pub mod Ready
 pub mod Grant
 pub mod Translate
+pub mod Public
+pub mod Expiry
 pub mod Step
 pub mod Stepped
 pub mod Run

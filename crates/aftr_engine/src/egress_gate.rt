@@ -1,20 +1,22 @@
-//! One record after another through the translator: its leases are logged before its packets are sent.
-ghost use Rattle.std.specs.Prelude.{◌≡◌, ◌≤◌, ◌<◌, ◌+◌, ◌*◌, ◌^◌, ◌++◌, ℕ, List, length, option_to_list, OnOk, OnErr, IsErrOf};
+//! One record after another through the translator: the log takes what it says before its packets are sent.
+ghost use Rattle.std.specs.Prelude.{◌≡◌, ◌≤◌, ◌<◌, ◌+◌, ◌^◌, ◌++◌, length, IfOk, OnOk, IsErrOf};
 ghost use Rattle.plant_io.specs.Causes.{Rose};
 ghost use Rattle.plant_io.specs.Sink.{GainsPart};
-ghost use Rattle.plant_io.specs.Story.{content, sent};
-ghost use Rattle.aftr_base.specs.declared.event.DropCause.{DropCause};
+ghost use Rattle.plant_io.specs.Story.{content, sent, IsSettled};
+ghost use Rattle.plant_io.specs.Stops.{StopsLeave};
+ghost use Rattle.aftr_engine.specs.lease_log.Leaves.{LogsFirst};
 ghost use Rattle.aftr_engine.specs.link_records.Frames.{moment_limit};
+ghost use Rattle.aftr_engine.specs.xlate_core.Run.{logged_by};
 ghost use Rattle.aftr_engine.specs.xlate_core.Step.{step};
 ghost use Rattle.aftr_engine.specs.xlate_core.Stepped.{AreShort};
-ghost use Rattle.aftr_engine.specs.aftr_engine.Output.{output, record_log};
-ghost use Rattle.aftr_engine.specs.aftr_engine.Report.{drop_counts};
+ghost use Rattle.aftr_engine.specs.aftr_engine.Output.{output};
 
 use crate::lease_log::Journal;
 use crate::link_records::write_record;
+use crate::nat_events::write_records;
 use crate::tally::Tally;
 use crate::xlate_core::{Core, Item, StepOut};
-use aftr_base::{Event, LeaseRow, List, NoMemory};
+use aftr_base::{DropCause, Event, List, NoMemory};
 use plant_io::{Failed, Plant};
 use std::alloc::Global;
 use std::marker::Model;
@@ -40,12 +42,55 @@ impl From<NoMemory> for PassFailed {
     }
 }
 
-/// What lets packets out: what the records gave so far, counted, and room that is used again for each record.
+/// What one record gave, and the same as it stands in the log and in the output. The room is used again.
+#[derive(Drop)]
+pub struct Batch {
+    pub out: StepOut,
+    pub log: List<u8>,
+    pub packets: List<u8>,
+}
+
+impl Batch {
+    ghost use Rattle.aftr_engine.specs.egress_gate.Spelled.{HasSpelled};
+
+    // Nothing, which takes no memory.
+    fn new(alloc: Global) -> Self {
+        Batch {
+            out: StepOut::new(alloc),
+            log: List::new(alloc),
+            packets: List::new(alloc),
+        }
+    }
+
+    // Takes one record through the translator: all the memory that the record needs is taken here.
+    fn fill(
+        &mut self,
+        alloc: Global,
+        core: &mut Core,
+        event: &Event,
+    ) -> Result<Option<DropCause>, NoMemory>
+        requires { event.now.at.0 ≤ moment_limit }
+        ensures { IfOk result (λ cause. HasSpelled (step core.old event.now) core.new self.new cause) }
+    {
+        self.out.clear();
+        self.log.clear();
+        self.packets.clear();
+        let cause = core.step(alloc, event, &mut self.out)?;
+        write_records(
+            self.out.closings.as_slice(),
+            self.out.openings.as_slice(),
+            &mut self.log,
+        )?;
+        encode(self.out.items.as_slice(), &mut self.packets)?;
+        Ok(cause)
+    }
+}
+
+/// What lets packets out: what the records gave so far, counted, and the one that passes.
 #[derive(Drop)]
 pub struct Gate {
     tally: Tally,
-    out: StepOut,
-    bytes: List<u8>,
+    batch: Batch,
 }
 
 impl Model for Gate {
@@ -65,8 +110,7 @@ impl Gate {
     {
         Gate {
             tally: Tally::new(),
-            out: StepOut::new(alloc),
-            bytes: List::new(alloc),
+            batch: Batch::new(alloc),
         }
     }
 
@@ -77,8 +121,8 @@ impl Gate {
         self.tally
     }
 
-    /// Takes one record through the translator, logs the leases that it opens, and then sends its packets. `Log`
-    /// and `Outlet` come where the file or the outlet failed; after an `Err` nothing more may pass.
+    /// Takes one record through the translator, logs the leases that it closes and opens, and then sends its
+    /// packets. `Log` and `Outlet` come where the file or the outlet failed; after an `Err` nothing more may pass.
     pub fn pass<P: Plant>(
         &mut self,
         alloc: Global,
@@ -88,9 +132,10 @@ impl Gate {
         event: &Event,
     ) -> Result<(), PassFailed>
         requires moment { event.now.at.0 ≤ moment_limit }
-        requires room { journal.old < 2 ^ 60 }
+        requires room { journal.old < 2 ^ 62 }
         requires few { AreFew self.old }
         requires stands { P.tells → journal.old ≡ length (content (P.story plant.old)) }
+        requires settled { P.tells → IsSettled (P.story plant.old) }
 
         ensures state { OnOk result (core.new ≡ (step core.old event.now).state) }
         ensures counts { OnOk result (HasCounted (step core.old event.now) self.old self.new) }
@@ -98,26 +143,26 @@ impl Gate {
             (sent (P.story plant.new) ≡ sent (P.story plant.old) ++ output (step core.old event.now).items) }
         ensures part { P.tells → GainsPart (output (step core.old event.now).items) (sent (P.story plant.old)) (sent (P.story plant.new)) }
         ensures log { P.tells → OnOk result
-            (content (P.story plant.new) ≡ content (P.story plant.old) ++ record_log (step core.old event.now).openings) }
-        ensures size { OnOk result (journal.new ≡ journal.old + 34 * length (step core.old event.now).openings) }
+            (content (P.story plant.new) ≡ content (P.story plant.old) ++ logged_by (step core.old event.now)) }
+        ensures size { OnOk result (journal.new ≡ journal.old + length (logged_by (step core.old event.now))) }
         ensures stands { P.tells → OnOk result (journal.new ≡ length (content (P.story plant.new))) }
+        ensures settled { P.tells → OnOk result (IsSettled (P.story plant.new)) }
+        ensures stops { P.tells → StopsLeave (P.story plant.old) (P.story plant.new)
+            (LogsFirst (P.story plant.old) (logged_by (step core.old event.now)) (output (step core.old event.now).items)) }
 
         ensures disk_later { P.disk_faults plant.old ≤ P.disk_faults plant.new }
         ensures outlet_later { P.out_faults plant.old ≤ P.out_faults plant.new }
         ensures disk { IsErrOf result PassFailed.Log → Rose (P.disk_faults plant.old) (P.disk_faults plant.new) }
         ensures outlet { IsErrOf result PassFailed.Outlet → Rose (P.out_faults plant.old) (P.out_faults plant.new) }
     {
-        self.out.clear();
-        self.bytes.clear();
-        let cause = core.step(alloc, event, &mut self.out)?;
-        encode(self.out.items.as_slice(), &mut self.bytes)?;
+        let cause = self.batch.fill(alloc, core, event)?;
         commit_and_send(
             journal,
             plant,
-            self.out.openings.as_slice(),
-            self.bytes.as_slice(),
+            self.batch.log.as_slice(),
+            self.batch.packets.as_slice(),
         )?;
-        self.tally.count(self.out.items.len(), cause);
+        self.tally.count(self.batch.out.items.len(), cause);
         Ok(())
     }
 }
@@ -133,21 +178,24 @@ fn encode(items: &[Item], out: &mut List<u8>) -> Result<(), NoMemory>
     Ok(())
 }
 
-// Logs the leases and then sends the bytes: never a byte before the leases are synced.
+// Logs the records and then sends the packets: never a byte before the records are synced.
 fn commit_and_send<P: Plant>(
     journal: &mut Journal,
     plant: &mut P,
-    openings: &[LeaseRow],
-    bytes: &[u8],
+    records: &[u8],
+    packets: &[u8],
 ) -> Result<(), PassFailed>
-    requires room { journal.old + 34 * length openings.now < 2 ^ 64 }
+    requires room { journal.old + length records.now < 2 ^ 64 }
     requires stands { P.tells → journal.old ≡ length (content (P.story plant.old)) }
+    requires settled { P.tells → IsSettled (P.story plant.old) }
 
-    ensures sent { P.tells → OnOk result (sent (P.story plant.new) ≡ sent (P.story plant.old) ++ bytes.now) }
-    ensures part { P.tells → GainsPart bytes.now (sent (P.story plant.old)) (sent (P.story plant.new)) }
-    ensures log { P.tells → OnOk result (content (P.story plant.new) ≡ content (P.story plant.old) ++ record_log openings.now) }
-    ensures size { OnOk result (journal.new ≡ journal.old + 34 * length openings.now) }
+    ensures sent { P.tells → OnOk result (sent (P.story plant.new) ≡ sent (P.story plant.old) ++ packets.now) }
+    ensures part { P.tells → GainsPart packets.now (sent (P.story plant.old)) (sent (P.story plant.new)) }
+    ensures log { P.tells → OnOk result (content (P.story plant.new) ≡ content (P.story plant.old) ++ records.now) }
+    ensures size { OnOk result (journal.new ≡ journal.old + length records.now) }
     ensures stands { P.tells → OnOk result (journal.new ≡ length (content (P.story plant.new))) }
+    ensures settled { P.tells → OnOk result (IsSettled (P.story plant.new)) }
+    ensures stops { P.tells → StopsLeave (P.story plant.old) (P.story plant.new) (LogsFirst (P.story plant.old) records.now packets.now) }
 
     ensures memory { IsErrOf result PassFailed.NoMemory → ⊥ }
     ensures disk_later { P.disk_faults plant.old ≤ P.disk_faults plant.new }
@@ -155,11 +203,11 @@ fn commit_and_send<P: Plant>(
     ensures disk { IsErrOf result PassFailed.Log → Rose (P.disk_faults plant.old) (P.disk_faults plant.new) }
     ensures outlet { IsErrOf result PassFailed.Outlet → Rose (P.out_faults plant.old) (P.out_faults plant.new) }
 {
-    match journal.append(plant, openings) {
+    match journal.append(plant, records) {
         Ok(()) => {}
         Err(Failed) => return Err(PassFailed::Log),
     }
-    match plant.emit(bytes) {
+    match plant.emit(packets) {
         Ok(()) => Ok(()),
         Err(Failed) => Err(PassFailed::Outlet),
     }

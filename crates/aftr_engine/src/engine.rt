@@ -1,26 +1,36 @@
 //! The program's one call, over any objects of the outside.
-ghost use Rattle.std.specs.Prelude.{◌≡◌, ◌≤◌, ◌<◌, [], ◌++◌, List, ℕ, length, codes, OnOk, OnErr, IfErr, None};
+ghost use Rattle.std.specs.Prelude.{◌≡◌, ◌≤◌, ◌<◌, [], ◌++◌, List, ℕ, length, OnOk, OnErr, IfOk, IfErr, None};
+ghost use Rattle.std.specs.declared.result.Result.TheVariants.{Ok as Whole};
 ghost use Rattle.plant_io.specs.Causes.{HasCause};
 ghost use Rattle.plant_io.specs.Sink.{GainsPart};
+ghost use Rattle.plant_io.specs.Stops.{StopsLeave};
 ghost use Rattle.plant_io.specs.Story.{content, sent};
-ghost use Rattle.aftr_engine.specs.link_records.Frames.{frames_of};
-ghost use Rattle.aftr_engine.specs.aftr_engine.Words.{paths_for, input_count};
-ghost use Rattle.aftr_engine.specs.aftr_engine.Causes.{at_first, Count, IsCommand, HasReason, RefusesWords, RefusesConfig, RefusesLog, IsForConfig, IsForLog, IsRefusal, EndsWith, IsAtRecordsEnd, Prints, PrintsFault, IsReported};
+ghost use Rattle.aftr_engine.specs.link_records.Frames.{frames_of, AtEnd};
+ghost use Rattle.aftr_engine.specs.lease_log.Told.{told_by};
+ghost use Rattle.aftr_engine.specs.trace_query.Names.{name_of};
+ghost use Rattle.aftr_engine.specs.aftr_engine.Words.{command_for, paths_for, input_count};
+ghost use Rattle.aftr_engine.specs.aftr_engine.Causes.{at_first, IsCommand, IsRun, IsQuery, HasReason, IsFaultless, IsWhole, RefusesWords, RefusesConfig, RefusesLog, IsForConfig, IsForLog, IsForDamage, IsRefusal, EndsWith, IsAtRecordsEnd, Prints, PrintsFault, PrintsOf, IsReported, answer_text};
 ghost use Rattle.aftr_engine.specs.aftr_engine.EndToEnd.{output_of, log_of, counts_of, summary_of};
-ghost use Rattle.aftr_engine.specs.engine.Ended.{counts_between, RefusesBytes, RefusesSize, RunReason, IsBadText};
+ghost use Rattle.aftr_engine.specs.aftr_engine.Stops.{AccountsFor};
+ghost use Rattle.aftr_engine.specs.engine.Ended.{counts_between, RefusesBytes, RefusesSize, RunReason, QueryReason, RefusesQuery, IsBadText};
+ghost use Rattle.aftr_base.specs.declared.row.LeaseRow.{LeaseRow};
+ghost use Rattle.aftr_engine.specs.declared.engine.Answer.TheVariants.{Name, Listed};
 ghost use Rattle.aftr_engine.specs.session.Begun.{TalliesAs as RunTallies};
 
-use crate::report::{write_fault, write_summary};
+use crate::lease_log::{ToldBad, read_told};
+use crate::report::{write_fault, write_leases, write_summary, write_trace};
 use crate::session::Session;
 use crate::tally::Tally;
-use crate::words::paths_of;
-use aftr_base::{Key, List, NoMemory, Outcome, Status, Word};
+use crate::trace_query::name;
+use crate::words::{Command, command_of};
+use aftr_base::{Ip4, Key, LeaseRow, List, Moment, NoMemory, Outcome, Status, Subscriber, Word};
 use plant_io::{Failed, Plant, Sink, Source};
 use std::alloc::Global;
 
-/// Runs a command: `run CONFIG LOG OUTLET INPUT` translates the records of one input of frames, with the default
-/// configuration, onto a log and an outlet that it finds empty, and reports to `report`. The objects are those
-/// that the words name, one input for each: none where they are no command.
+/// Runs a command. `run CONFIG LOG OUTLET INPUT` translates the records of one input of frames, with the default
+/// configuration, onto a log and an outlet that it finds empty. `trace LOG ADDRESS PORT MOMENT` prints who had a
+/// place at a moment, by the log, and `leases LOG` prints all leases that the log tells. The objects are those that
+/// the words name, one input for each: none where they are no command. The answer of every command goes to `report`.
 ///
 /// What is refused is refused in this order: the words, the configuration, the log, then the records in theirs.
 pub fn aftr<C: Source, I: Source, P: Plant, R: Sink>(
@@ -35,68 +45,154 @@ pub fn aftr<C: Source, I: Source, P: Plant, R: Sink>(
 
     // A whole run is the plain translator's: the packets, the log and the counts are those of its run over the
     // input's records, also where a record behind them is bad.
-    ensures sent { I.tells → P.tells → IsAtRecordsEnd result.status →
+    ensures sent { I.tells → P.tells → IsRun (command_for words.now) → IsAtRecordsEnd result.status →
         sent (P.story plant.new) ≡ sent (P.story plant.old) ++ output_of (at_first [] I.rest inputs.old) }
-    ensures log { I.tells → P.tells → IsAtRecordsEnd result.status →
+    ensures log { I.tells → P.tells → IsRun (command_for words.now) → IsAtRecordsEnd result.status →
         content (P.story plant.new) ≡ log_of (at_first [] I.rest inputs.old) }
-    ensures drops { I.tells → IsAtRecordsEnd result.status → result.drops.0 ≡ counts_of (at_first [] I.rest inputs.old) }
-    ensures summary { I.tells → R.tells → result.status ≡ Status.Ok →
+    ensures drops { I.tells → IsRun (command_for words.now) → IsAtRecordsEnd result.status →
+        result.drops.0 ≡ counts_of (at_first [] I.rest inputs.old) }
+    ensures summary { I.tells → R.tells → IsRun (command_for words.now) → result.status ≡ Status.Ok →
         R.written report.new ≡ R.written report.old ++ summary_of (at_first [] I.rest inputs.old) }
     ensures marks { result.marks ≡ [] }
 
-    // However it ends, what was sent is a part of that output, from its start.
+    // However it ends, what was sent is a part of that output, from its start. A stop at any moment leaves a log
+    // that begins with all that was logged for the packets sent until then.
     ensures part { I.tells → P.tells →
         GainsPart (output_of (at_first [] I.rest inputs.old)) (sent (P.story plant.old)) (sent (P.story plant.new)) }
+    ensures stops { I.tells → P.tells → StopsLeave (P.story plant.old) (P.story plant.new)
+        (AccountsFor (at_first [] I.rest inputs.old) (sent (P.story plant.old))) }
+
+    // A query prints what the log's bytes tell, or names the damage, and changes nothing.
+    ensures told { P.tells → R.tells → result.status ≡ Status.Ok →
+        PrintsOf (content (P.story plant.old)) (R.written report.old) (R.written report.new) (command_for words.now) }
+    ensures damage { P.tells → IsQuery (command_for words.now) → IsForDamage (told_by (content (P.story plant.old))) result.status }
+    ensures kept { P.tells → IsQuery (command_for words.now) → P.story plant.new ≡ P.story plant.old }
 
     // When each answer comes, whatever the objects tell.
-    ensures reason { HasReason (paths_for words.now)
+    ensures reason { HasReason (command_for words.now)
         (counts_between C.faults cfg.old cfg.new I.faults inputs.old inputs.new P.disk_faults P.out_faults plant.old plant.new R.faults report.old report.new)
         result.status }
-    ensures words { paths_for words.now ≡ None → RefusesWords
+    ensures words { command_for words.now ≡ None → RefusesWords
         (counts_between C.faults cfg.old cfg.new I.faults inputs.old inputs.new P.disk_faults P.out_faults plant.old plant.new R.faults report.old report.new)
         result.status }
 
     // The configuration, the log and the input, each where it tells what it holds.
     ensures config { C.tells → IsForConfig (C.rest cfg.old) result.status }
-    ensures config_refused { C.tells → IsCommand (paths_for words.now) → 0 < length (C.rest cfg.old) → RefusesConfig
+    ensures config_refused { C.tells → IsRun (command_for words.now) → 0 < length (C.rest cfg.old) → RefusesConfig
         (counts_between C.faults cfg.old cfg.new I.faults inputs.old inputs.new P.disk_faults P.out_faults plant.old plant.new R.faults report.old report.new)
         result.status }
     ensures size { P.tells → IsForLog (content (P.story plant.old)) result.status }
-    ensures log_refused { P.tells → IsCommand (paths_for words.now) → 0 < length (content (P.story plant.old)) → RefusesLog (length (content (P.story plant.old)))
+    ensures log_refused { P.tells → IsRun (command_for words.now) → 0 < length (content (P.story plant.old)) → RefusesLog (length (content (P.story plant.old)))
         (counts_between C.faults cfg.old cfg.new I.faults inputs.old inputs.new P.disk_faults P.out_faults plant.old plant.new R.faults report.old report.new)
         result.status }
     ensures input { I.tells → EndsWith (frames_of (at_first [] I.rest inputs.old)).stop result.status }
 
+    // Nothing else ends a run: with no configuration bytes, an empty log, an input that ends well and no fault, only
+    // memory may be missing.
+    ensures complete { C.tells → I.tells → P.tells → IsRun (command_for words.now) → C.rest cfg.old ≡ [] → content (P.story plant.old) ≡ [] →
+        (frames_of (at_first [] I.rest inputs.old)).stop ≡ AtEnd →
+        IsFaultless (counts_between C.faults cfg.old cfg.new I.faults inputs.old inputs.new P.disk_faults P.out_faults plant.old plant.new R.faults report.old report.new) →
+        IsWhole result.status }
+
     // A refusal leaves the log and the outlet as they were, and words that are no command leave all so.
     ensures refused { P.tells → IsRefusal result.status → P.story plant.new ≡ P.story plant.old }
-    ensures untouched { paths_for words.now ≡ None → (cfg.new ≡ cfg.old) × (inputs.new ≡ inputs.old) × (plant.new ≡ plant.old) }
+    ensures untouched { command_for words.now ≡ None → (cfg.new ≡ cfg.old) × (inputs.new ≡ inputs.old) × (plant.new ≡ plant.old) }
 
     // A status other than Ok prints its one line.
     ensures fault { R.tells → PrintsFault (R.written report.old) (R.written report.new) result.status }
 {
-    let ended = match paths_of(words) {
-        Some(_) => run(alloc, cfg, &mut inputs[0], plant),
+    let ended = match command_of(words) {
+        Some(Command::Run) => run(alloc, cfg, &mut inputs[0], plant),
+        Some(Command::Trace { addr, port, at }) => trace(alloc, plant, addr, port, at),
+        Some(Command::Leases) => list(alloc, plant),
         None => Ended::before(Status::BadWords),
     };
     reported(alloc, ended, report)
 }
 
-/// How a run ended, before it is reported.
+/// What a command that ends well answers.
+#[derive(Debug, Drop)]
+pub enum Answer {
+    /// A run's counts.
+    Summary,
+    /// The subscriber that had a place, if one had it.
+    Name(Option<Subscriber>),
+    /// The leases that the log tells.
+    Listed(List<LeaseRow>),
+}
+
+/// How a command ended, before it is reported.
 #[derive(Debug, Drop)]
 pub struct Ended {
     pub status: Status,
     pub tally: Tally,
+    pub answer: Answer,
 }
 
 impl Ended {
     // An end before a record was treated.
     fn before(status: Status) -> Self
-        ensures { result.status ≡ status }
+        ensures status { result.status ≡ status }
+        ensures answer { result.answer ≡ Answer.Summary }
     {
         Ended {
             status,
             tally: Tally::new(),
+            answer: Answer::Summary,
         }
+    }
+}
+
+// The answer of a query that ended well.
+fn answered(answer: Answer) -> Ended
+    ensures status { result.status ≡ Status.Ok }
+    ensures answer { result.answer ≡ answer }
+{
+    Ended {
+        status: Status::Ok,
+        tally: Tally::new(),
+        answer,
+    }
+}
+
+// Who had a place at a moment, by what the log tells.
+fn trace<P: Plant>(alloc: Global, plant: &mut P, addr: Ip4, port: u16, at: Moment) -> Ended
+    ensures told { P.tells → result.status ≡ Status.Ok → (leases : List LeaseRow) × (told_by (content (P.story plant.old)) ≡ Whole leases) × (result.answer ≡ Name (name_of leases addr port at.0)) }
+    ensures damage { P.tells → IsForDamage (told_by (content (P.story plant.old))) result.status }
+    ensures same { P.tells → P.story plant.new ≡ P.story plant.old }
+    ensures reason { QueryReason (P.disk_faults plant.old) (P.disk_faults plant.new) result.status }
+{
+    match read_leases(alloc, plant) {
+        Ok(leases) => answered(Answer::Name(name(leases.as_slice(), addr, port, at))),
+        Err(status) => Ended::before(status),
+    }
+}
+
+// All leases that the log tells.
+fn list<P: Plant>(alloc: Global, plant: &mut P) -> Ended
+    ensures told { P.tells → result.status ≡ Status.Ok → (leases : List LeaseRow) × (told_by (content (P.story plant.old)) ≡ Whole leases) × (result.answer ≡ Listed leases) }
+    ensures damage { P.tells → IsForDamage (told_by (content (P.story plant.old))) result.status }
+    ensures same { P.tells → P.story plant.new ≡ P.story plant.old }
+    ensures reason { QueryReason (P.disk_faults plant.old) (P.disk_faults plant.new) result.status }
+{
+    match read_leases(alloc, plant) {
+        Ok(leases) => answered(Answer::Listed(leases)),
+        Err(status) => Ended::before(status),
+    }
+}
+
+// What the log tells, or how a query ends without it.
+fn read_leases<P: Plant>(alloc: Global, plant: &mut P) -> Result<List<LeaseRow>, Status>
+    ensures told { P.tells → IfOk result (λ leases. told_by (content (P.story plant.old)) ≡ Whole leases) }
+    ensures damage { P.tells → IfErr result (λ status. IsForDamage (told_by (content (P.story plant.old))) status) }
+    ensures reason { IfErr result (λ status. RefusesQuery (P.disk_faults plant.old) (P.disk_faults plant.new) status) }
+    ensures same { P.tells → P.story plant.new ≡ P.story plant.old }
+{
+    match read_told(alloc, plant) {
+        Ok(leases) => Ok(leases),
+        Err(ToldBad::Damaged(offset)) => Err(Status::LogDamaged(offset)),
+        Err(ToldBad::Failed) => Err(Status::LogFault),
+        Err(ToldBad::NoMemory) => Err(Status::NoMemory),
     }
 }
 
@@ -111,6 +207,8 @@ fn run<C: Source, I: Source, P: Plant>(
         sent (P.story plant.new) ≡ sent (P.story plant.old) ++ output_of (I.rest input.old) }
     ensures log { I.tells → P.tells → IsAtRecordsEnd result.status → content (P.story plant.new) ≡ log_of (I.rest input.old) }
     ensures counts { I.tells → IsAtRecordsEnd result.status → RunTallies (I.rest input.old) result.tally }
+    ensures answer { result.answer ≡ Answer.Summary }
+    ensures stops { I.tells → P.tells → StopsLeave (P.story plant.old) (P.story plant.new) (AccountsFor (I.rest input.old) (sent (P.story plant.old))) }
     ensures part { I.tells → P.tells → GainsPart (output_of (I.rest input.old)) (sent (P.story plant.old)) (sent (P.story plant.new)) }
     ensures reason { RunReason C.tells (C.rest cfg.old) P.tells (content (P.story plant.old)) (C.faults cfg.old) (C.faults cfg.new) (I.faults input.old) (I.faults input.new)
         (P.disk_faults plant.old) (P.disk_faults plant.new) (P.out_faults plant.old) (P.out_faults plant.new) result.status }
@@ -129,6 +227,7 @@ fn run<C: Source, I: Source, P: Plant>(
             Ended {
                 status,
                 tally: session.tally(),
+                answer: Answer::Summary,
             }
         }
         Err(NoMemory) => Ended::before(Status::NoMemory),
@@ -179,11 +278,11 @@ fn reported<R: Sink>(alloc: Global, ended: Ended, report: &mut R) -> Outcome
     ensures status { IsReported ended.status (record { before = R.faults report.old; after = R.faults report.new }) result.status }
     ensures drops { result.drops ≡ ended.tally.drops }
     ensures marks { result.marks ≡ [] }
-    ensures text { R.tells → Prints (R.written report.old) (R.written report.new) ended.tally result.status }
+    ensures text { R.tells → Prints (R.written report.old) (R.written report.new) ended.tally ended.answer result.status }
     ensures later { R.faults report.old ≤ R.faults report.new }
 {
     let printed = print(report, &ended);
-    let Ended { status, tally } = ended;
+    let Ended { status, tally, .. } = ended;
     let marks = List::new(alloc);
     let drops = tally.drops;
     match printed {
@@ -202,13 +301,26 @@ fn reported<R: Sink>(alloc: Global, ended: Ended, report: &mut R) -> Outcome
 
 // Prints the summary of a run that ended well, or the line of its fault; an outlet that failed is not reported.
 fn print<R: Sink>(report: &mut R, ended: &Ended) -> Result<(), Failed>
-    ensures text { R.tells → OnOk result (Prints (R.written report.old) (R.written report.new) ended.now.tally ended.now.status) }
+    ensures text { R.tells → OnOk result (Prints (R.written report.old) (R.written report.new) ended.now.tally ended.now.answer ended.now.status) }
     ensures part { R.tells → OnErr result ((more : List ℕ) × (R.written report.new ≡ R.written report.old ++ more)) }
     ensures cause { HasCause (R.faults report.old) (R.faults report.new) result }
 {
     match &ended.status {
-        Status::Ok => write_summary(report, &ended.tally),
+        Status::Ok => print_answer(report, ended),
         Status::OutFault => Ok(()),
         fault => write_fault(report, fault),
+    }
+}
+
+// Prints the answer of a command that ended well.
+fn print_answer<R: Sink>(report: &mut R, ended: &Ended) -> Result<(), Failed>
+    ensures text { R.tells → OnOk result (R.written report.new ≡ R.written report.old ++ answer_text ended.now.tally ended.now.answer) }
+    ensures part { R.tells → OnErr result ((more : List ℕ) × (R.written report.new ≡ R.written report.old ++ more)) }
+    ensures cause { HasCause (R.faults report.old) (R.faults report.new) result }
+{
+    match &ended.answer {
+        Answer::Summary => write_summary(report, &ended.tally),
+        Answer::Name(name) => write_trace(report, *name),
+        Answer::Listed(leases) => write_leases(report, leases.as_slice()),
     }
 }

@@ -14,6 +14,7 @@ mod report;
 mod session;
 mod subscriber_table;
 mod tally;
+mod trace_query;
 mod wire_ip4;
 mod wire_ip6;
 mod wire_l4;

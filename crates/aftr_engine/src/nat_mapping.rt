@@ -1,20 +1,29 @@
-//! Mapping rows (RFC 4787).
-ghost use Rattle.std.specs.Prelude.{◌≡◌, ◌++◌, [], ◌∷◌, OnOk, OnErr};
+//! Mapping rows and their peers (RFC 4787).
+ghost use Rattle.std.specs.Prelude.{◌≡◌, ◌++◌, [], ◌∷◌, nat_lt, length, map, if◌then◌else◌, OnOk, OnErr};
 ghost use Rattle.std.specs.Option.{option_copied};
 ghost use Rattle.std.specs.List.{list_any};
-ghost use Rattle.aftr_base.specs.Value.{key_eq, number_of, place};
-ghost use Rattle.aftr_engine.specs.nat_mapping.Rows.{find_out, is_at, least_free};
+ghost use Rattle.aftr_base.specs.Value.{ip4_eq, key_eq, number_of, place, subscriber_eq};
+ghost use Rattle.aftr_engine.specs.declared.nat_mapping.Peer.{Peer};
+ghost use Rattle.aftr_engine.specs.nat_mapping.Rows.{find_out, find_in, is_at, least_free, has_peer, with_peer, touched, peer_count, in_use, live_peers, expired};
 
-use aftr_base::{Ext, InnerKey, Ip4, NoMemory, Proto, Subscriber};
+use aftr_base::{Ext, InnerKey, Ip4, List, Moment, NoMemory, Proto, Subscriber};
 use std::alloc::Global;
 use std::marker::Model;
 
-/// A mapping from an inner key to an external place.
+/// A remote address that a mapping was used for, and the moment in milliseconds at which it is forgotten.
 #[derive(Clone, Copy, Debug, PartialEq, Eq)]
+pub struct Peer {
+    pub addr: Ip4,
+    pub deadline: Moment,
+}
+
+/// A mapping from an inner key to an external place.
+#[derive(Debug, Drop)]
 pub struct Row {
     pub key: InnerKey,
     pub owner: Subscriber,
     pub ext: Ext,
+    pub peers: List<Peer>,
 }
 
 /// The rows in order of making. Each search is a plain scan of them; indexes come later.
@@ -49,6 +58,13 @@ impl Table {
         self.rows.iter().find(|r| is_same_key(key, &r.key))
     }
 
+    /// The row of an external place.
+    pub fn find_in(&self, proto: Proto, ext: Ext) -> Option<&Row>
+        ensures { option_copied result ≡ find_in proto ext self.now }
+    {
+        self.rows.iter().find(|r| is_at(proto, ext, r))
+    }
+
     /// The least port from `first` to `last`, both included, that no row of the protocol has at the
     /// address. Where `first` is greater there is none.
     pub fn least_free(&self, proto: Proto, addr: Ip4, first: u16, last: u16) -> Option<u16>
@@ -66,9 +82,31 @@ impl Table {
     fn is_taken(&self, proto: Proto, addr: Ip4, port: u16) -> bool
         ensures { result ≡ list_any (is_at proto (place addr port)) self.now }
     {
+        self.rows
+            .iter()
+            .any(|r| is_at(proto, Ext { addr, port }, r))
+    }
+
+    /// Whether a row has its place at the address from `first` to `last`, both included.
+    pub fn in_use(&self, addr: Ip4, first: u16, last: u16) -> bool
+        ensures { result ≡ in_use addr first last self.now }
+    {
         self.rows.iter().any(|r| {
-            number(proto) == number(r.key.proto) && addr.0 == r.ext.addr.0 && port == r.ext.port
+            addr.0 == r.ext.addr.0 && first <= r.ext.port && r.ext.port <= last
         })
+    }
+
+    /// Whether the peers of a subscriber's rows are fewer than the limit (RFC 6888 3, REQ-4).
+    pub fn has_fewer_peers(&self, owner: Subscriber, limit: u32) -> bool
+        ensures { result ≡ nat_lt (peer_count owner self.now) limit }
+    {
+        let mut count = 0u64;
+        for row in &self.rows {
+            if is_same_subscriber(owner, row.owner) {
+                count = count.saturating_add(row.peers.len() as u64);
+            }
+        }
+        count < u64::from(limit)
     }
 
     /// Adds a row behind the others. `NoMemory` changes nothing.
@@ -79,6 +117,74 @@ impl Table {
         self.rows.push(row)?;
         Ok(())
     }
+
+    /// Puts a peer into the row of an inner key: in the place of the one at its address, or behind
+    /// all. After `NoMemory` nothing is said of the rows, which are only dropped.
+    pub fn touch(&mut self, key: &InnerKey, peer: Peer) -> Result<(), NoMemory>
+        ensures { OnOk result (self.new ≡ touched key.now peer self.old) }
+    {
+        for row in self.rows.iter_mut() {
+            if is_same_key(key, &row.key) {
+                put_peer(&mut row.peers, peer)?;
+            }
+        }
+        Ok(())
+    }
+
+    /// Lets the peers go whose deadline is not past `now`, and then the rows that have none left
+    /// (RFC 4787 4.3). It takes no memory.
+    pub fn expire(&mut self, now: Moment)
+        ensures { self.new ≡ expired now.0 self.old }
+    {
+        self.rows.retain_mut(|row| is_live_at(now, row));
+    }
+}
+
+/// Whether one of the peers is at this address.
+pub(crate) fn has_peer(remote: Ip4, peers: &[Peer]) -> bool
+    ensures { result ≡ has_peer remote peers.now }
+{
+    peers.iter().any(|p| remote.0 == p.addr.0)
+}
+
+/// Puts a peer in the place of the one at its address, or behind all.
+fn put_peer(peers: &mut List<Peer>, peer: Peer) -> Result<(), NoMemory>
+    ensures { OnOk result (peers.new ≡ with_peer peer peers.old) }
+{
+    if has_peer(peer.addr, peers.as_slice()) {
+        replace_peer(peers, peer);
+        return Ok(());
+    }
+    peers.push(peer)
+}
+
+/// Puts a peer in the place of the one at its address.
+fn replace_peer(peers: &mut List<Peer>, peer: Peer)
+    ensures { peers.new ≡ map (λ (q : Peer). if ip4_eq peer.addr q.addr then peer else q) peers.old }
+{
+    for at in 0..peers.len() {
+        if peer.addr.0 == peers.as_slice()[at].addr.0 {
+            peers.set(at, peer);
+        }
+    }
+}
+
+/// Lets the peers of a row go whose deadline is not past `now`. The answer is whether one is left.
+fn is_live_at(now: Moment, row: &mut Row) -> bool
+    ensures row { row.new ≡ live_peers now.0 row.old }
+    ensures left { result ≡ nat_lt 0 (length row.new.peers) }
+{
+    row.peers.retain(|p| now.0 < p.deadline.0);
+    row.peers.len() > 0
+}
+
+/// Whether a row of the protocol has this place.
+fn is_at(proto: Proto, ext: Ext, row: &Row) -> bool
+    ensures { result ≡ is_at proto ext row.now }
+{
+    number(proto) == number(row.key.proto)
+        && ext.addr.0 == row.ext.addr.0
+        && ext.port == row.ext.port
 }
 
 fn is_same_key(a: &InnerKey, b: &InnerKey) -> bool
@@ -99,4 +205,10 @@ fn number(proto: Proto) -> u8
         Proto::Udp => 17,
         Proto::Icmp => 1,
     }
+}
+
+fn is_same_subscriber(a: Subscriber, b: Subscriber) -> bool
+    ensures { result ≡ subscriber_eq a b }
+{
+    a.0.bits.0 == b.0.bits.0 && a.0.len == b.0.len
 }

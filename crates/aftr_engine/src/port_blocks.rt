@@ -6,9 +6,11 @@ ghost use Rattle.aftr_base.specs.Plan.{is_pool_prefix, size4};
 ghost use Rattle.aftr_base.specs.Row.{is_open, overlaps};
 ghost use Rattle.aftr_base.specs.Value.{subscriber_eq};
 ghost use Rattle.aftr_engine.specs.port_blocks.Free.{has_ended_for, last_port, is_free, block_on, block_at, addresses_in, block_anywhere, opened};
+ghost use Rattle.aftr_engine.specs.xlate_core.Expiry.{closing_limit, closings_of, is_idle, with_idle_ended};
 
 use crate::cfg_text::Config;
-use aftr_base::{Ip4, LeaseRow, Moment, NoMemory, Prefix4, Subscriber};
+use crate::nat_mapping::Table;
+use aftr_base::{Ip4, LeaseRow, List, Moment, NoMemory, Prefix4, Subscriber};
 use std::alloc::Global;
 use std::marker::Model;
 
@@ -17,6 +19,9 @@ const FIRST_PORT: u16 = 1024;
 
 /// How many ports there are from the first on that is leased.
 const LEASED_PORTS: u16 = 64512;
+
+/// How many leases end at one moment, at the most.
+const CLOSING_LIMIT: u16 = 512;
 
 /// The leases in order of opening. Each search is a plain scan of them; indexes come later.
 #[derive(Drop)]
@@ -142,6 +147,29 @@ impl Blocks {
         self.leases.push(lease)?;
         Ok(())
     }
+
+    /// Ends, at the moment `now`, the open leases in whose range of ports no row has its place: in order
+    /// of opening, and 512 of them at the most. They are added to `closed` as they ended. `NoMemory`
+    /// comes where `closed` gets no room; then a part of them may have ended.
+    pub fn close_idle(
+        &mut self,
+        table: &Table,
+        now: Moment,
+        closed: &mut List<LeaseRow>,
+    ) -> Result<(), NoMemory>
+        ensures leases { OnOk result (self.new ≡ with_idle_ended closing_limit now.0 table.now self.old) }
+        ensures closed { OnOk result (closed.new ≡ closed.old ++ closings_of closing_limit now.0 table.now self.old) }
+    {
+        let mut left = CLOSING_LIMIT;
+        for lease in self.leases.iter_mut() {
+            if left > 0 && is_idle(table, lease) {
+                lease.until = Some(now);
+                closed.push(*lease)?;
+                left -= 1;
+            }
+        }
+        Ok(())
+    }
 }
 
 /// A subscriber's lease of the block that begins at `first`, open from `now` on.
@@ -165,6 +193,13 @@ pub(crate) fn is_open_of(owner: Subscriber, lease: &LeaseRow) -> bool
     ensures { result ≡ (is_open lease.now && subscriber_eq owner lease.now.owner) }
 {
     lease.until.is_none() && is_same_subscriber(owner, lease.owner)
+}
+
+/// Whether a lease is open and no row has its place in its range.
+fn is_idle(table: &Table, lease: &LeaseRow) -> bool
+    ensures { result ≡ is_idle table.now lease.now }
+{
+    lease.until.is_none() && !table.in_use(lease.addr, lease.first, lease.last)
 }
 
 fn has_ended_for(config: &Config, owner: Subscriber, now: Moment, lease: &LeaseRow) -> bool

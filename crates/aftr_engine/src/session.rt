@@ -2,7 +2,9 @@
 ghost use Rattle.std.specs.Prelude.{◌≡◌, ◌≤◌, [], ◌++◌, List, ℕ, length, IfOk};
 ghost use Rattle.plant_io.specs.Causes.{Rose};
 ghost use Rattle.plant_io.specs.Sink.{GainsPart};
+ghost use Rattle.plant_io.specs.Stops.{StopsLeave};
 ghost use Rattle.plant_io.specs.Story.{content, sent};
+ghost use Rattle.aftr_engine.specs.aftr_engine.Stops.{AccountsFor};
 ghost use Rattle.aftr_base.specs.declared.outcome.Status.{Status};
 ghost use Rattle.aftr_engine.specs.link_records.Frames.{frames_of};
 ghost use Rattle.aftr_engine.specs.aftr_engine.Causes.{EndsWith, IsAtRecordsEnd};
@@ -67,6 +69,7 @@ impl Session {
             sent (P.story plant.new) ≡ sent (P.story plant.old) ++ output_of (I.rest input.old) }
         ensures part { I.tells → P.tells → GainsPart (output_of (I.rest input.old)) (sent (P.story plant.old)) (sent (P.story plant.new)) }
         ensures log { I.tells → P.tells → IsAtRecordsEnd result → content (P.story plant.new) ≡ log_of (I.rest input.old) }
+        ensures stops { I.tells → P.tells → StopsLeave (P.story plant.old) (P.story plant.new) (AccountsFor (I.rest input.old) (sent (P.story plant.old))) }
         ensures counts { I.tells → IsAtRecordsEnd result → HasTallied (I.rest input.old) self.new }
 
         ensures cause { StopsFor (I.faults input.old) (I.faults input.new) (P.disk_faults plant.old) (P.disk_faults plant.new)

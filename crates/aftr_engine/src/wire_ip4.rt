@@ -46,14 +46,14 @@ pub struct Ip4View<'a> {
 }
 
 impl<'a> Model for Ip4View<'a> {
-    ghost use Rattle.std.specs.Prelude.{ℕ, ◌≤◌, List, length};
+    ghost use Rattle.std.specs.Prelude.{ℕ, ◌+◌, ◌≤◌, List, length};
     ghost use Rattle.aftr_engine.specs.wire_ip4.Grammar.{Header, header_of, len_of};
 
     ghost Value = { Header × List ℕ };
 
     ghost view = { λ v. (header_of v.bytes.now, v.payload.now) };
 
-    ghost invariant = { λ v. (20 ≤ len_of v.bytes.now) × (len_of v.bytes.now ≤ length v.bytes.now) × (length v.payload.now ≤ 65515) };
+    ghost invariant = { λ v. (20 ≤ len_of v.bytes.now) × (len_of v.bytes.now ≤ length v.bytes.now) × (length v.payload.now ≤ 65515) × (20 + length v.payload.now ≤ (header_of v.bytes.now).fields.total) };
 }
 
 // the length that the first byte says, in bytes
@@ -139,6 +139,7 @@ impl<'a> Ip4View<'a> {
     pub fn payload(&self) -> &'a [u8]
         ensures bytes { result.now ≡ self.now.1 }
         ensures short { length result.now ≤ 65515 }
+        ensures within { 20 + length result.now ≤ self.now.0.fields.total }
     {
         self.payload
     }

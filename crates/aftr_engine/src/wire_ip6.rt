@@ -1,9 +1,10 @@
 //! IPv6 packets (RFC 8200 3).
 ghost use Rattle.std.specs.Prelude.{◌≡◌};
-ghost use Rattle.aftr_engine.specs.wire_ip6.Grammar.{packet_of};
+ghost use Rattle.aftr_engine.specs.wire_ip6.Grammar.{header_bytes, packet_of};
 
 use crate::octets::{u16_in, u128_in};
 use aftr_base::Ip6;
+use byteorder::{BigEndian, ByteOrder};
 use std::marker::Model;
 
 /// The fields of an IPv6 header, but for the flow label. The payload length counts bytes.
@@ -92,4 +93,22 @@ impl<'a> Ip6View<'a> {
     {
         self.payload
     }
+}
+
+/// The header that has these fields, with a flow label of 0.
+#[tactic(auto, unfolding(aftr_base::specs::Bytes::be16, aftr_base::specs::Bytes::be32, aftr_base::specs::Bytes::be128))]
+pub fn header_octets(fields: &Ip6Fields) -> [u8; 40]
+    ensures { result ≡ header_bytes fields.now }
+{
+    let mut bytes = [0u8; 40];
+    BigEndian::write_u32(
+        &mut bytes,
+        0x6000_0000 + 0x10_0000 * u32::from(fields.class),
+    );
+    BigEndian::write_u16(&mut bytes[4..], fields.payload);
+    bytes[6] = fields.next;
+    bytes[7] = fields.hops;
+    BigEndian::write_u128(&mut bytes[8..], fields.src.0);
+    BigEndian::write_u128(&mut bytes[24..], fields.dst.0);
+    bytes
 }

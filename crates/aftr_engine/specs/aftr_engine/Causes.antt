@@ -1,12 +1,19 @@
 -- When each answer comes. The numbers are the counts of faults before and after the call.
-use Rattle.std.specs.Prelude.{◌≡◌, ◌≢◌, ◌⊎◌, ◌<◌, ℕ, List, [], ◌∷◌, ◌++◌, length, codes, Option, None}
+use Rattle.std.specs.Prelude.{◌≡◌, ◌≢◌, ◌⊎◌, ◌<◌, ℕ, List, [], ◌∷◌, ◌++◌, length, codes, Option, Some, None, Result}
 use Rattle.plant_io.specs.Causes.{Rose}
 use Rattle.aftr_base.specs.declared.outcome.Status.{Status}
 use Rattle.aftr_base.specs.declared.outcome.Status.TheVariants.{Ok, BadWords, BadConfig, BadInput, ReadFault, LogFault, OutFault, LogDamaged, LogFull, AlreadyThere, NoMemory}
-use Rattle.aftr_engine.specs.declared.words.Paths.{Paths}
+use Rattle.aftr_engine.specs.declared.words.Command.{Command}
+use Rattle.aftr_engine.specs.declared.words.Command.TheVariants.{Run, Trace, Leases}
 use Rattle.aftr_engine.specs.link_records.Frames.{Stop, AtEnd, BadAt}
 use Rattle.aftr_engine.specs.declared.tally.Tally.{Tally}
-use Rattle.aftr_engine.specs.aftr_engine.Report.{summary, fault_line}
+use Rattle.std.specs.declared.result.Result.TheVariants.{Ok as Whole, Err as Damaged}
+use Rattle.aftr_base.specs.declared.row.LeaseRow.{LeaseRow}
+use Rattle.aftr_engine.specs.declared.engine.Answer.{Answer}
+use Rattle.aftr_engine.specs.declared.engine.Answer.TheVariants.{Summary, Name, Listed}
+use Rattle.aftr_engine.specs.lease_log.Told.{told_by}
+use Rattle.aftr_engine.specs.trace_query.Names.{name_of}
+use Rattle.aftr_engine.specs.aftr_engine.Report.{summary, fault_line, trace_line, leases_text}
 
 -- what the first of a list has, or a value where there is none
 abbrev pub at_first : {A B : Type 0} → B → (A → B) → List A → B
@@ -29,22 +36,47 @@ pub record Counts : Type 0 where
   pub outlet : Count
   pub report : Count
 
-abbrev pub IsCommand : Option Paths → Type 0
-IsCommand paths = paths ≢ None
+abbrev pub IsCommand : Option Command → Type 0
+IsCommand command = command ≢ None
 
--- Why a call may end so, whatever the objects hold. No record is damage to this log, and it has no limit.
-abbrev pub HasReason : Option Paths → Counts → Status → Type 0
-HasReason paths c Ok = IsCommand paths
-HasReason paths c BadWords = paths ≡ None
-HasReason paths c (BadConfig key) = IsCommand paths × (key ≡ codes "text")
-HasReason paths c (BadInput input offset) = IsCommand paths × (input ≡ 0)
-HasReason paths c ReadFault = IsCommand paths × (HasRisen c.config ⊎ HasRisen c.input)
-HasReason paths c LogFault = IsCommand paths × HasRisen c.disk
-HasReason paths c OutFault = HasRisen c.report ⊎ (IsCommand paths × HasRisen c.outlet)
-HasReason paths c (LogDamaged offset) = ⊥
-HasReason paths c (LogFull tail need limit) = ⊥
-HasReason paths c (AlreadyThere size) = IsCommand paths × (0 < size)
-HasReason paths c NoMemory = IsCommand paths
+-- a command that translates
+abbrev pub IsRun : Option Command → Type 0
+IsRun (Some Run) = Unit {0}
+IsRun other = ⊥
+
+-- a command that asks what the log tells
+abbrev pub IsQuery : Option Command → Type 0
+IsQuery (Some (Trace addr port at)) = Unit {0}
+IsQuery (Some Leases) = Unit {0}
+IsQuery other = ⊥
+
+-- Why a call may end so, whatever the objects hold. This log has no limit.
+abbrev pub HasReason : Option Command → Counts → Status → Type 0
+HasReason command c Ok = IsCommand command
+HasReason command c BadWords = command ≡ None
+HasReason command c (BadConfig key) = IsRun command × (key ≡ codes "text")
+HasReason command c (BadInput input offset) = IsRun command × (input ≡ 0)
+HasReason command c ReadFault = IsRun command × (HasRisen c.config ⊎ HasRisen c.input)
+HasReason command c LogFault = IsCommand command × HasRisen c.disk
+HasReason command c OutFault = HasRisen c.report ⊎ (IsRun command × HasRisen c.outlet)
+HasReason command c (LogDamaged offset) = IsQuery command
+HasReason command c (LogFull tail need limit) = ⊥
+HasReason command c (AlreadyThere size) = IsRun command × (0 < size)
+HasReason command c NoMemory = IsCommand command
+
+-- no count of the objects that a run has rose
+pub record IsFaultless (c : Counts) : Type 0 where
+  pub config : HasRisen c.config → ⊥
+  pub input : HasRisen c.input → ⊥
+  pub disk : HasRisen c.disk → ⊥
+  pub outlet : HasRisen c.outlet → ⊥
+  pub report : HasRisen c.report → ⊥
+
+-- a run that nothing stands against ends well, but for want of memory
+abbrev pub IsWhole : Status → Type 0
+IsWhole Ok = Unit {0}
+IsWhole NoMemory = Unit {0}
+IsWhole other = ⊥
 
 -- words that are no command are refused before anything is looked at
 abbrev pub RefusesWords : Counts → Status → Type 0
@@ -79,6 +111,12 @@ abbrev pub IsForLog : List ℕ → Status → Type 0
 IsForLog bytes (AlreadyThere size) = size ≡ length bytes
 IsForLog bytes other = Unit {0}
 
+-- a query ends well where the log is whole, else with the offset of the damage
+abbrev pub IsForDamage : Result (List LeaseRow) ℕ → Status → Type 0
+IsForDamage told Ok = (leases : List LeaseRow) × (told ≡ Whole leases)
+IsForDamage told (LogDamaged offset) = told ≡ Damaged offset
+IsForDamage told other = Unit {0}
+
 -- an answer that comes before the log or the outlet is touched
 abbrev pub IsRefusal : Status → Type 0
 IsRefusal BadWords = Unit {0}
@@ -99,16 +137,28 @@ IsAtRecordsEnd other = ⊥
 
 -- ---- what is printed
 
--- the summary, or the line of the fault; a report or an outlet that failed has some more bytes
-abbrev pub Prints : List ℕ → List ℕ → Tally → Status → Type 0
-Prints past now t Ok = now ≡ past ++ summary t.records t.sent t.drops.0
-Prints past now t OutFault = (more : List ℕ) × (now ≡ past ++ more)
-Prints past now t other = now ≡ past ++ fault_line other
+-- what a call answers that ends well: a run's counts, a name, or the leases
+abbrev pub answer_text : Tally → Answer → List ℕ
+answer_text t Summary = summary t.records t.sent t.drops.0
+answer_text t (Name name) = trace_line name
+answer_text t (Listed leases) = leases_text leases
+
+-- that, or the line of the fault; a report or an outlet that failed has some more bytes
+abbrev pub Prints : List ℕ → List ℕ → Tally → Answer → Status → Type 0
+Prints past now t a Ok = now ≡ past ++ answer_text t a
+Prints past now t a OutFault = (more : List ℕ) × (now ≡ past ++ more)
+Prints past now t a other = now ≡ past ++ fault_line other
 
 abbrev pub PrintsFault : List ℕ → List ℕ → Status → Type 0
 PrintsFault past now Ok = Unit {0}
 PrintsFault past now OutFault = (more : List ℕ) × (now ≡ past ++ more)
 PrintsFault past now other = now ≡ past ++ fault_line other
+
+-- what a query that ends well prints of this log
+abbrev pub PrintsOf : List ℕ → List ℕ → List ℕ → Option Command → Type 0
+PrintsOf file past now (Some (Trace addr port at)) = (leases : List LeaseRow) × (told_by file ≡ Whole leases) × (now ≡ past ++ trace_line (name_of leases addr port at.0))
+PrintsOf file past now (Some Leases) = (leases : List LeaseRow) × (told_by file ≡ Whole leases) × (now ≡ past ++ leases_text leases)
+PrintsOf file past now other = Unit {0}
 
 -- the status is this one, or the report failed
 abbrev pub IsReported : Status → Count → Status → Type 0

@@ -2,7 +2,7 @@
 use Rattle.std.specs.Prelude.{ℕ, List, length}
 use Rattle.aftr_engine.specs.link_records.Frames.{frames_of}
 use Rattle.aftr_engine.specs.xlate_core.Run.{Run, first_run}
-use Rattle.aftr_engine.specs.aftr_engine.Output.{output, record_log}
+use Rattle.aftr_engine.specs.aftr_engine.Output.{output}
 use Rattle.aftr_engine.specs.aftr_engine.Report.{drop_counts, summary}
 
 -- the translator's run over the records of an input
@@ -13,7 +13,7 @@ abbrev pub output_of : List ℕ → List ℕ
 output_of input = output (run_of input).items
 
 abbrev pub log_of : List ℕ → List ℕ
-log_of input = record_log (run_of input).openings
+log_of input = (run_of input).log
 
 abbrev pub counts_of : List ℕ → List ℕ
 counts_of input = drop_counts (run_of input).drops

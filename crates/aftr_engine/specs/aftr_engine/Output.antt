@@ -1,9 +1,7 @@
 -- What is sent, and what the log says of it.
 use Rattle.std.specs.Prelude.{ℕ, List, flat_map}
-use Rattle.aftr_base.specs.declared.row.LeaseRow.{LeaseRow}
 use Rattle.aftr_engine.specs.declared.xlate_core.Item.{Item}
 use Rattle.aftr_engine.specs.link_records.Frames.{record_bytes}
-use Rattle.aftr_engine.specs.nat_events.Spelling.{opening_record}
 
 -- an item as it stands in the output
 abbrev pub item_bytes : Item → List ℕ
@@ -11,7 +9,3 @@ item_bytes i = record_bytes i.side i.at.0 i.bytes
 
 abbrev pub output : List Item → List ℕ
 output items = flat_map item_bytes items
-
--- the log of these leases, in order of opening
-abbrev pub record_log : List LeaseRow → List ℕ
-record_log openings = flat_map opening_record openings

@@ -4,7 +4,7 @@ use Rattle.aftr_base.specs.declared.event.Event.{Event}
 use Rattle.aftr_engine.specs.link_records.Frames.{Input, frames_of, frames_from}
 use Rattle.aftr_engine.specs.xlate_core.State.{State}
 use Rattle.aftr_engine.specs.xlate_core.Run.{first_run}
-use Rattle.aftr_engine.specs.aftr_engine.Output.{output, record_log}
+use Rattle.aftr_engine.specs.aftr_engine.Output.{output}
 use Rattle.aftr_engine.specs.aftr_engine.Report.{drop_counts}
 
 -- these records before those of an input
@@ -21,7 +21,7 @@ pub record HasRun (seen : List Event) (state : State) (records sent : ℕ) (drop
 -- its packets were sent and its leases logged
 pub record HasSent (seen : List Event) (sent_before sent_after log : List ℕ) : Type 0 where
   pub packets : sent_after ≡ sent_before ++ output (first_run seen).items
-  pub leases : log ≡ record_log (first_run seen).openings
+  pub leases : log ≡ (first_run seen).log
 
 -- the records are those before this offset of the input, where these bytes are left
 abbrev pub HasRead : List Event → List ℕ → ℕ → List ℕ → Type 0

@@ -46,3 +46,14 @@ RunReason c config p log cf cf' input input' disk disk' outlet outlet' (LogDamag
 RunReason c config p log cf cf' input input' disk disk' outlet outlet' (LogFull tail need limit) = ⊥
 RunReason c config p log cf cf' input input' disk disk' outlet outlet' (AlreadyThere size) = (c → config ≡ []) × (0 < size) × (p → size ≡ length log)
 RunReason c config p log cf cf' input input' disk disk' outlet outlet' NoMemory = Unit {0}
+
+-- Why a query ends so: a log that is damaged or can't be read, or want of memory.
+abbrev pub RefusesQuery : ℕ → ℕ → Status → Type 0
+RefusesQuery disk disk' LogFault = Rose disk disk'
+RefusesQuery disk disk' (LogDamaged offset) = Unit {0}
+RefusesQuery disk disk' NoMemory = Unit {0}
+RefusesQuery disk disk' other = ⊥
+
+abbrev pub QueryReason : ℕ → ℕ → Status → Type 0
+QueryReason disk disk' Ok = Unit {0}
+QueryReason disk disk' other = RefusesQuery disk disk' other

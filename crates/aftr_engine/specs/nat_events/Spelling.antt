@@ -1,5 +1,6 @@
--- The log: one record of 34 bytes for each block that opens.
-use Rattle.std.specs.Prelude.{ℕ, List, ◌∷◌, ◌++◌, Bool, true, if◌then◌else◌}
+-- The log: one record of 34 bytes for each block that opens or closes.
+use Rattle.std.specs.Prelude.{ℕ, List, ◌∷◌, ◌++◌, Bool, true, false, unwrap_or, if◌then◌else◌}
+use Rattle.aftr_base.specs.Value.{moment}
 use Rattle.aftr_base.specs.Bytes.{be16, be32, be64, be128}
 use Rattle.aftr_base.specs.declared.row.LeaseRow.{LeaseRow}
 use Rattle.aftr_base.specs.declared.value.Moment.{Moment}
@@ -17,3 +18,10 @@ block_record opens at l =
 -- a block opens as its lease begins
 abbrev pub opening_record : LeaseRow → List ℕ
 opening_record l = block_record true l.since l
+
+-- and closes as its lease ends
+abbrev pub end_of : LeaseRow → Moment
+end_of l = unwrap_or l.until (moment 0)
+
+abbrev pub closing_record : LeaseRow → List ℕ
+closing_record l = block_record false (end_of l) l

@@ -1,22 +1,55 @@
 -- Mapping rows (RFC 4787 4), as a list in order of making.
-use Rattle.std.specs.Prelude.{ℕ, ◌+◌, ◌-◌, Bool, not, ◌&&◌, List, find, Option}
+use Rattle.std.specs.Prelude.{ℕ, ◌+◌, ◌-◌, Bool, not, ◌&&◌, nat_lt, List, [], ◌∷◌, ◌++◌, length, map, filter, find, sum_by, Option, if◌then◌else◌}
 use Rattle.std.specs.List.{list_any, range_with_len}
-use Rattle.aftr_base.specs.Value.{place_eq, proto_eq, key_eq, place}
+use Rattle.aftr_base.specs.Value.{ip4_eq, place_eq, proto_eq, key_eq, subscriber_eq, is_within, place}
 use Rattle.aftr_base.specs.declared.value.Ip4.{Ip4}
 use Rattle.aftr_base.specs.declared.value.Ext.{Ext}
 use Rattle.aftr_base.specs.declared.value.InnerKey.{InnerKey}
 use Rattle.aftr_base.specs.declared.value.Proto.{Proto}
+use Rattle.aftr_base.specs.declared.value.Subscriber.{Subscriber}
 use Rattle.aftr_engine.specs.declared.nat_mapping.Row.{Row}
+use Rattle.aftr_engine.specs.declared.nat_mapping.Peer.{Peer}
 
--- the row of an inner key
+-- the row of an inner key, and the row of an external place
 abbrev pub find_out : InnerKey → List Row → Option Row
 find_out key rows = find (λ r. key_eq key r.key) rows
 
--- the row has this external place
 abbrev pub is_at : Proto → Ext → Row → Bool
 is_at proto ext r = proto_eq proto r.key.proto && place_eq ext r.ext
+
+abbrev pub find_in : Proto → Ext → List Row → Option Row
+find_in proto ext rows = find (is_at proto ext) rows
 
 -- the least port of the range that no row of the protocol has at the address
 abbrev pub least_free : Proto → Ip4 → ℕ → ℕ → List Row → Option ℕ
 least_free proto addr first last rows =
     find (λ port. not (list_any (is_at proto (place addr port)) rows)) (range_with_len first (last + 1 - first))
+
+-- ---- the remote addresses that a row was used for
+
+abbrev pub has_peer : Ip4 → List Peer → Bool
+has_peer remote peers = list_any (λ (p : Peer). ip4_eq remote p.addr) peers
+
+-- the peer in the place of the one at its address, or behind all
+abbrev pub with_peer : Peer → List Peer → List Peer
+with_peer p peers = if has_peer p.addr peers then map (λ (q : Peer). if ip4_eq p.addr q.addr then p else q) peers else peers ++ p ∷ []
+
+abbrev pub touched : InnerKey → Peer → List Row → List Row
+touched key p rows = map (λ (r : Row). if key_eq key r.key then record r { peers = with_peer p r.peers } else r) rows
+
+-- how many peers one owner has
+abbrev pub peer_count : Subscriber → List Row → ℕ
+peer_count s rows = sum_by (λ (r : Row). if subscriber_eq s r.owner then length r.peers else 0) rows
+
+-- ---- expiry
+
+-- a row's place lies in the range
+abbrev pub in_use : Ip4 → ℕ → ℕ → List Row → Bool
+in_use addr first last rows = list_any (λ (r : Row). ip4_eq addr r.ext.addr && is_within first last r.ext.port) rows
+
+-- peers go at their deadline, and rows without peers (RFC 4787 4.3)
+abbrev pub live_peers : ℕ → Row → Row
+live_peers now r = record r { peers = filter (λ (p : Peer). nat_lt now p.deadline.0) r.peers }
+
+abbrev pub expired : ℕ → List Row → List Row
+expired now rows = filter (λ (r : Row). nat_lt 0 (length r.peers)) (map (live_peers now) rows)

@@ -13,6 +13,6 @@ pub record IsUnderWay (input_tells plant_tells : Type 0) (input left sent_before
   pub read : input_tells → HasRead seen input offset left
   pub done : plant_tells → HasSent seen sent_before sent_now log_bytes
   pub stands : plant_tells → size ≡ length log_bytes
-  pub few : length seen ≤ offset
-  pub small : size ≤ 34 * length seen
+  pub few : 13 * length seen ≤ offset
+  pub small : size ≤ 17442 * length seen
   pub within : offset ≤ input_limit

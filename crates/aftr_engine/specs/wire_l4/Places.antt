@@ -11,3 +11,7 @@ place_words e = address_words e.addr.0 ++ e.port ∷ []
 -- the datagram after its source's place became another
 abbrev pub source_replaced : Ext → Ext → Udp → Udp
 source_replaced old new u = record u { src = new.port; sum = adjusted_udp u.sum (place_words old) (place_words new) }
+
+-- the datagram after its destination's place became another
+abbrev pub target_replaced : Ext → Ext → Udp → Udp
+target_replaced old new u = record u { dst = new.port; sum = adjusted_udp u.sum (place_words old) (place_words new) }

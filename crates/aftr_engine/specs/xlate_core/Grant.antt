@@ -1,17 +1,18 @@
 -- Which place a mapping gets (RFC 4787 4, RFC 6888 3), and the first reason why it gets none.
-use Rattle.std.specs.Prelude.{ℕ, ◌==◌, [], ◌∷◌, ◌++◌, length, List, Option, Some, None, is_some, option_map, option_to_list, Result, Ok, Err, ok_or, if◌then◌else◌}
+use Rattle.std.specs.Prelude.{ℕ, ◌+◌, ◌==◌, ◌||◌, Bool, nat_lt, List, [], ◌∷◌, ◌++◌, length, Option, Some, None, is_some, option_map, option_to_list, Result, Ok, Err, ok_or, if◌then◌else◌}
 use Rattle.aftr_base.specs.Attempt.{◌>>◌, require, first_some}
-use Rattle.aftr_base.specs.Value.{place}
+use Rattle.aftr_base.specs.Value.{place, moment}
 use Rattle.aftr_base.specs.declared.value.Ip4.{Ip4}
 use Rattle.aftr_base.specs.declared.value.Ext.{Ext}
 use Rattle.aftr_base.specs.declared.value.InnerKey.{InnerKey}
 use Rattle.aftr_base.specs.declared.value.Proto.{Proto}
 use Rattle.aftr_base.specs.declared.row.LeaseRow.{LeaseRow}
 use Rattle.aftr_base.specs.declared.event.DropCause.{DropCause}
-use Rattle.aftr_base.specs.declared.event.DropCause.TheVariants.{QuotaBlocks, PoolEmpty}
+use Rattle.aftr_base.specs.declared.event.DropCause.TheVariants.{QuotaPeers, QuotaBlocks, PoolEmpty}
 use Rattle.aftr_engine.specs.declared.nat_mapping.Row.{Row}
 use Rattle.aftr_engine.specs.declared.xlate_core.grant.Grant.{Grant as GrantValue}
-use Rattle.aftr_engine.specs.nat_mapping.Rows.{find_out, least_free}
+use Rattle.aftr_engine.specs.declared.nat_mapping.Peer.{Peer}
+use Rattle.aftr_engine.specs.nat_mapping.Rows.{find_out, least_free, has_peer, peer_count, touched}
 use Rattle.aftr_engine.specs.port_blocks.Free.{open_of, block_anywhere, opened}
 use Rattle.aftr_engine.specs.xlate_core.State.{State, Sender}
 
@@ -49,20 +50,33 @@ new_block s who =
     require (length (open_of who.owner s.leases) == 0) QuotaBlocks
     >> ok_or (option_map (new_lease s who) (block_anywhere s.config s.leases who.owner s.clock)) PoolEmpty
 
--- a mapping keeps its place for every remote endpoint (RFC 4787 4.1, REQ-1)
-abbrev pub granted : State → Sender → InnerKey → Result Grant DropCause
-granted s who key =
+-- a subscriber may have one more peer (RFC 6888 3, REQ-4)
+abbrev pub may_peer : State → Sender → Bool
+may_peer s who = nat_lt (peer_count who.owner s.rows) s.config.max_peers
+
+-- A mapping keeps its place for every remote endpoint (RFC 4787 4.1, REQ-1), as long as it may have one more.
+abbrev pub granted : State → Sender → InnerKey → Ip4 → Result Grant DropCause
+granted s who key remote =
     elim (find_out key s.rows) [
-      | Some r ↦ Ok (at_once r.ext)
+      | Some r ↦ if has_peer remote r.peers || may_peer s who then Ok (at_once r.ext) else Err QuotaPeers
       | None ↦ elim (place_in_lease s who key.proto) [ Some ext ↦ Ok (at_once ext) | None ↦ new_block s who ]
     ]
 
-abbrev pub row_for : Sender → InnerKey → Ext → Row
-row_for who key ext = record { key = key; owner = who.owner; ext = ext }
+-- a new row has its first peer at once
+abbrev pub row_for : Sender → InnerKey → Peer → Ext → Row
+row_for who key peer ext = record { key = key; owner = who.owner; ext = ext; peers = peer ∷ [] }
+
+-- the peer that a packet to this address makes or refreshes (RFC 4787 4.3)
+abbrev pub peer_of : State → Ip4 → Peer
+peer_of s remote = record { addr = remote; deadline = moment (s.clock + s.config.udp_ms) }
+
+-- the rows after a packet of this key went to this peer: a new row, or the key's row with the peer
+abbrev pub rows_after : Sender → InnerKey → Peer → Ext → List Row → List Row
+rows_after who key peer ext rows = if is_some (find_out key rows) then touched key peer rows else rows ++ row_for who key peer ext ∷ []
 
 -- the state after a grant
-abbrev pub after_grant : Sender → InnerKey → Grant → State → State
-after_grant who key g s = record s {
-  rows = if is_some (find_out key s.rows) then s.rows else s.rows ++ row_for who key g.place ∷ [];
+abbrev pub after_grant : Sender → InnerKey → Ip4 → Grant → State → State
+after_grant who key remote g s = record s {
+  rows = rows_after who key (peer_of s remote) g.place s.rows;
   leases = s.leases ++ option_to_list g.lease;
 }

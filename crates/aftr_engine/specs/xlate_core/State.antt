@@ -24,10 +24,11 @@ pub record State : Type 0 where
 abbrev pub state_of : Config → ℕ → ℕ → List Row → List LeaseRow → State
 state_of config clock floor rows leases = record { config = config; clock = clock; floor = floor; rows = rows; leases = leases }
 
--- what a record leaves, sends and opens, and why it was dropped, if it was
+-- what a record leaves, sends, closes and opens, and why it was dropped, if it was
 pub record Step : Type 0 where
   pub state : State
   pub items : List Item
+  pub closings : List LeaseRow
   pub openings : List LeaseRow
   pub drop : Option DropCause
 

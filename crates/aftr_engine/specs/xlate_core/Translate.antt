@@ -29,6 +29,10 @@ ttl_word ttl h = 256 * ttl + h.fields.proto
 abbrev pub source_words : ℕ → Ip4 → Header → List ℕ
 source_words ttl addr h = ttl_word ttl h ∷ address_words addr.0
 
+-- the same for a translation of the destination
+abbrev pub target_words : ℕ → Ip4 → Header → List ℕ
+target_words ttl addr h = ttl_word ttl h ∷ address_words addr.0
+
 -- the header with this source and TTL; the identification, TOS, DF and the reserved bit stay
 abbrev pub moved_header : Ip4 → ℕ → Header → Header
 moved_header addr ttl h = record h {

@@ -1,19 +1,22 @@
 //! Which place a mapping gets, and what is kept of it (RFC 4787 4, RFC 6888 3).
-ghost use Rattle.std.specs.Prelude.{◌≡◌, ℕ, ◌<◌, ◌++◌, [], ◌∷◌, List, IfOk, IfSome, OnOk, is_some, option_to_list, if◌then◌else◌, true};
+ghost use Rattle.std.specs.Prelude.{◌≡◌, ℕ, ◌<◌, ◌≤◌, ◌++◌, ◌||◌, nat_lt, IfOk, IfSome, OnOk, option_to_list, if◌then◌else◌, true};
 ghost use Rattle.std.specs.List.{list_all};
 ghost use Rattle.aftr_base.specs.Attempt.{first_some};
 ghost use Rattle.aftr_base.specs.Plan.{is_pool_prefix};
-ghost use Rattle.aftr_engine.specs.declared.cfg_text.Config.{Config};
-ghost use Rattle.aftr_engine.specs.declared.nat_mapping.Row.{Row};
-ghost use Rattle.aftr_engine.specs.nat_mapping.Rows.{find_out};
+ghost use Rattle.aftr_base.specs.declared.event.DropCause.TheVariants.{QuotaPeers};
+ghost use Rattle.aftr_engine.specs.link_records.Frames.{moment_limit};
+ghost use Rattle.aftr_engine.specs.nat_mapping.Rows.{has_peer, peer_count};
 ghost use Rattle.aftr_engine.specs.port_blocks.Free.{open_of};
 ghost use Rattle.aftr_engine.specs.xlate_core.State.{state_of, sender_of};
-ghost use Rattle.aftr_engine.specs.xlate_core.Grant.{answer_of, grant_of, place_in, new_block, granted, row_for, after_grant};
+ghost use Rattle.aftr_engine.specs.xlate_core.Grant.{at_once, answer_of, grant_of, place_in, new_block, granted, rows_after, after_grant};
 
 use crate::cfg_text::Config;
-use crate::nat_mapping::{Row, Table};
+use crate::nat_mapping::{Peer, Row, Table, has_peer};
 use crate::port_blocks::{Blocks, is_open_of, opened};
-use aftr_base::{DropCause, Ext, InnerKey, Ip6, LeaseRow, Moment, NoMemory, Proto, Subscriber};
+use aftr_base::{
+    DropCause, Ext, InnerKey, Ip4, Ip6, LeaseRow, List, Moment, NoMemory, Proto, Subscriber,
+};
+use std::alloc::Global;
 
 /// A subscriber, and the softwire that it speaks through (RFC 6333).
 #[derive(Clone, Copy, Debug, PartialEq, Eq)]
@@ -29,9 +32,10 @@ pub struct Grant {
     pub lease: Option<LeaseRow>,
 }
 
-/// The place that the mapping of an inner key has, or gets now. The cause is `QuotaBlocks` where
-/// no port is left in the subscriber's open leases, and `PoolEmpty` where it has no open lease and
-/// no block of the pool is free.
+/// The place that the mapping of an inner key has, or gets now, for packets to this remote address.
+/// The cause is `QuotaPeers` where the mapping would have a peer more and its subscriber has as many
+/// as it may, `QuotaBlocks` where no port is left in the subscriber's open leases, and `PoolEmpty`
+/// where it has no open lease and no block of the pool is free.
 pub fn granted(
     config: &Config,
     clock: Moment,
@@ -39,14 +43,15 @@ pub fn granted(
     blocks: &Blocks,
     who: &Sender,
     key: &InnerKey,
+    remote: Ip4,
 ) -> Result<Grant, DropCause>
     requires pool { list_all is_pool_prefix config.now.pool ≡ true }
     requires size { 0 < config.now.block_size }
-    ensures grant { (floor : ℕ) → answer_of result ≡ granted (state_of config.now clock.0 floor table.now blocks.now) (sender_of who.now) key.now }
+    ensures grant { (floor : ℕ) → answer_of result ≡ granted (state_of config.now clock.0 floor table.now blocks.now) (sender_of who.now) key.now remote }
     ensures lease { IfOk result (λ g. IfSome g.lease (λ l. (l.addr ≡ g.place.addr) × (l.first ≡ g.place.port))) }
 {
     if let Some(row) = table.find_out(key) {
-        return Ok(at_once(row.ext));
+        return kept_place(config, table, who.owner, row, remote);
     }
     if let Some(place) = place_in_lease(table, blocks.rows(), who.owner, key.proto) {
         return Ok(at_once(place));
@@ -54,19 +59,48 @@ pub fn granted(
     new_block(config, clock, table, blocks, who)
 }
 
-/// Keeps a grant: a row where the key has none, and a lease where one has to open.
-/// After `NoMemory` the row may be kept and the lease not.
+/// Keeps a grant: a row with its first peer where the key has none, else the peer in the key's row,
+/// and a lease where one has to open. The peer is forgotten `udp_ms` milliseconds after the clock.
+/// After `NoMemory` nothing is said of the rows and leases, which are only dropped.
 pub fn keep(
+    alloc: Global,
+    config: &Config,
+    clock: Moment,
     table: &mut Table,
     blocks: &mut Blocks,
     who: &Sender,
     key: &InnerKey,
+    remote: Ip4,
     grant: &Grant,
 ) -> Result<(), NoMemory>
-    ensures { OnOk result ((config : Config) (clock floor : ℕ) → state_of config clock floor table.new blocks.new ≡ after_grant (sender_of who.now) key.now (grant_of grant.now) (state_of config clock floor table.old blocks.old)) }
+    requires idle { config.now.udp_ms ≤ 3600000 }
+    requires clock { clock.0 ≤ moment_limit }
+    ensures { OnOk result ((floor : ℕ) → state_of config.now clock.0 floor table.new blocks.new ≡ after_grant (sender_of who.now) key.now remote (grant_of grant.now) (state_of config.now clock.0 floor table.old blocks.old)) }
 {
-    keep_row(table, who, key, grant.place)?;
+    let peer = Peer {
+        addr: remote,
+        deadline: Moment(clock.0 + config.udp_ms),
+    };
+    keep_row(alloc, table, who, key, peer, grant.place)?;
     keep_lease(blocks, grant.lease)
+}
+
+/// The place of a row, unless the remote address would be a peer more than its subscriber may have.
+fn kept_place(
+    config: &Config,
+    table: &Table,
+    owner: Subscriber,
+    row: &Row,
+    remote: Ip4,
+) -> Result<Grant, DropCause>
+    ensures grant { answer_of result ≡ (if has_peer remote row.now.peers || nat_lt (peer_count owner table.now) config.now.max_peers then Ok (at_once row.now.ext) else Err QuotaPeers) }
+    ensures lease { IfOk result (λ g. g.lease ≡ None) }
+{
+    if has_peer(remote, row.peers.as_slice()) || table.has_fewer_peers(owner, config.max_peers) {
+        Ok(at_once(row.ext))
+    } else {
+        Err(DropCause::QuotaPeers)
+    }
 }
 
 fn at_once(place: Ext) -> Grant
@@ -130,16 +164,26 @@ fn new_block(
     }
 }
 
-fn keep_row(table: &mut Table, who: &Sender, key: &InnerKey, place: Ext) -> Result<(), NoMemory>
-    ensures { OnOk result (table.new ≡ (if is_some (find_out key.now table.old) then table.old else table.old ++ row_for (sender_of who.now) key.now place ∷ [])) }
+fn keep_row(
+    alloc: Global,
+    table: &mut Table,
+    who: &Sender,
+    key: &InnerKey,
+    peer: Peer,
+    place: Ext,
+) -> Result<(), NoMemory>
+    ensures { OnOk result (table.new ≡ rows_after (sender_of who.now) key.now peer place table.old) }
 {
     if table.find_out(key).is_some() {
-        return Ok(());
+        return table.touch(key, peer);
     }
+    let mut peers = List::new(alloc);
+    peers.push(peer)?;
     table.insert(Row {
         key: *key,
         owner: who.owner,
         ext: place,
+        peers,
     })
 }
 

@@ -1,11 +1,12 @@
-//! From a record's bytes to a datagram that is translated (RFC 2473 3.3, RFC 6333 5).
-ghost use Rattle.std.specs.Prelude.{◌≡◌, ◌==◌, ◌&&◌, ◌||◌, not, nat_lt, length};
+//! From a record's bytes to a datagram that is translated, either way (RFC 2473 3.3, RFC 6333 5).
+ghost use Rattle.std.specs.Prelude.{◌≡◌, ◌+◌, ◌≤◌, ◌&&◌, ◌||◌, not, nat_le, nat_lt, length, true, IfSome};
 ghost use Rattle.std.specs.List.{list_any};
 ghost use Rattle.aftr_base.specs.Value.{front_bits, is_under4};
 ghost use Rattle.aftr_base.specs.Plan.{tunnel_prefix};
 ghost use Rattle.aftr_engine.specs.wire_ip4.Grammar.{is_piece};
-ghost use Rattle.aftr_engine.specs.xlate_core.Ready.{IsReady};
-ghost use Rattle.aftr_engine.specs.xlate_core.Receive.{is_tunnelled, is_routable, has_route, is_plain, datagram_of, inner_datagram, received_in, received};
+ghost use Rattle.aftr_engine.specs.xlate_core.Public.{reply_of, reply_in};
+ghost use Rattle.aftr_engine.specs.xlate_core.Ready.{IsReady, IsSmall, is_whole_udp, is_outward, is_homeward, whole_datagram};
+ghost use Rattle.aftr_engine.specs.xlate_core.Receive.{is_tunnelled, is_routable, has_route, datagram_of, inner_datagram, received_in, received};
 
 use crate::cfg_text::Config;
 use crate::subscriber_table;
@@ -48,6 +49,34 @@ impl<'a> Datagram<'a> {
         ensures { result.now ≡ self.now.udp }
     {
         &self.udp
+    }
+}
+
+/// A datagram that comes back from the public side, and that still is an IP packet of at most 65,535
+/// bytes with an IPv6 header before it. Contracts see the datagram.
+#[derive(Debug, Drop)]
+pub(crate) struct Reply<'a> {
+    datagram: Datagram<'a>,
+}
+
+impl<'a> Model for Reply<'a> {
+    ghost use Rattle.aftr_engine.specs.xlate_core.Receive.{Datagram as SpecDatagram};
+    ghost use Rattle.aftr_engine.specs.xlate_core.Ready.{IsSmall};
+
+    ghost Value = { SpecDatagram };
+
+    ghost view = { λ r. r.datagram };
+
+    ghost invariant = { λ r. IsSmall r.datagram };
+}
+
+impl<'a> Reply<'a> {
+    /// What was sent back.
+    pub(crate) fn datagram(&self) -> &Datagram<'a>
+        ensures is { result.now ≡ self.now }
+        ensures small { IsSmall self.now }
+    {
+        &self.datagram
     }
 }
 
@@ -151,37 +180,46 @@ fn is_ours(pool: &[Prefix4], a: Ip4) -> bool
     pool.iter().any(|p| is_under(*p, a))
 }
 
-// a whole UDP packet without options that has a route to the public side
-fn is_routed_udp(packet: &Ip4View<'_>) -> bool
-    ensures { result ≡ (length packet.now.0.options == 0 && not (is_piece packet.now.0) && has_route packet.now.0 && packet.now.0.fields.proto == 17) }
+// a whole UDP packet without options that may be forwarded once more
+fn is_whole_udp(packet: &Ip4View<'_>) -> bool
+    ensures { result ≡ is_whole_udp packet.now.0 }
 {
     let fields = packet.fields();
-    !packet.has_options()
-        && !is_piece(&fields)
-        && has_route(fields.src, fields.dst)
-        && fields.proto == 17
+    !packet.has_options() && !is_piece(&fields) && fields.proto == 17 && 2 <= fields.ttl
 }
 
-// every test that a packet passes before it is translated
-fn is_plain(config: &Config, packet: &Ip4View<'_>) -> bool
-    ensures { result ≡ is_plain config.now packet.now.0 }
+// the datagram of a packet, before the tests that a way has of its own
+fn whole_datagram(packet: Ip4View<'_>) -> Option<Datagram<'_>>
+    ensures value { result ≡ whole_datagram packet.entry }
+    ensures within { IfSome result (λ d. 28 + length d.udp.rest ≤ packet.entry.0.fields.total) }
 {
-    let fields = packet.fields();
-    is_routed_udp(packet)
-        && 2 <= fields.ttl
-        && fields.total <= config.public_mtu
-        && !is_ours(config.pool.as_slice(), fields.dst)
-}
-
-fn datagram_of<'a>(config: &Config, packet: Ip4View<'a>) -> Option<Datagram<'a>>
-    ensures { result ≡ datagram_of config.now packet.entry }
-{
-    if !is_plain(config, &packet) {
+    if !is_whole_udp(&packet) {
         return None;
     }
     match UdpView::read(packet.payload()) {
         Ok(udp) => Some(Datagram { packet, udp }),
         Err(_) => None,
+    }
+}
+
+// a packet that has a route to the public side and needn't be cut there
+fn is_outward(config: &Config, packet: &Ip4View<'_>) -> bool
+    ensures { result ≡ is_outward config.now packet.now.0 }
+{
+    let fields = packet.fields();
+    has_route(fields.src, fields.dst)
+        && fields.total <= config.public_mtu
+        && !is_ours(config.pool.as_slice(), fields.dst)
+}
+
+#[tactic(auto, using(crate::proofs::ReadyDatagrams::datagram_by_tests))]
+fn datagram_of<'a>(config: &Config, packet: Ip4View<'a>) -> Option<Datagram<'a>>
+    ensures { result ≡ datagram_of config.now packet.entry }
+{
+    if is_outward(config, &packet) {
+        whole_datagram(packet)
+    } else {
+        None
     }
 }
 
@@ -219,6 +257,58 @@ pub(crate) fn receive<'a>(config: &Config, bytes: &'a [u8]) -> Option<Received<'
 {
     match Ip6View::read(bytes) {
         Ok(packet) => received_in(config, &packet),
+        Err(_) => None,
+    }
+}
+
+// ---- the way back
+
+// a packet of this many bytes fits the MTU with an IPv6 header before it
+fn fits_softwire(mtu: u16, total: u16) -> bool
+    ensures test { result ≡ nat_le (40 + total) mtu }
+    ensures small { result ≡ true → 40 + total ≤ 65535 }
+{
+    40 + u32::from(total) <= u32::from(mtu)
+}
+
+// an address on the public side
+fn is_outside(pool: &[Prefix4], a: Ip4) -> bool
+    ensures { result ≡ (is_routable a && not (list_any (λ p. is_under4 p a) pool.now)) }
+{
+    is_routable(a) && !is_ours(pool, a)
+}
+
+// a packet to the pool from outside it that fits the softwire
+fn is_homeward(config: &Config, packet: &Ip4View<'_>) -> bool
+    ensures test { result ≡ is_homeward config.now packet.now.0 }
+    ensures small { result ≡ true → 40 + packet.now.0.fields.total ≤ 65535 }
+{
+    let fields = packet.fields();
+    let pool = config.pool.as_slice();
+    is_ours(pool, fields.dst)
+        && is_outside(pool, fields.src)
+        && fits_softwire(config.softwire_mtu, fields.total)
+}
+
+#[tactic(auto, using(crate::proofs::ReadyDatagrams::reply_by_tests))]
+fn reply_of<'a>(config: &Config, packet: Ip4View<'a>) -> Option<Reply<'a>>
+    ensures { result ≡ reply_of config.now packet.entry }
+{
+    if !is_homeward(config, &packet) {
+        return None;
+    }
+    let datagram = whole_datagram(packet)?;
+    Some(Reply { datagram })
+}
+
+/// The datagram of an IPv4 packet from the public side, where it is one that can be a reply to a
+/// subscriber: a sound, whole UDP packet to the pool, from a routed address outside it, that fits the
+/// softwire. It takes time linear in the bytes and in the number of configured prefixes.
+pub(crate) fn receive_reply<'a>(config: &Config, bytes: &'a [u8]) -> Option<Reply<'a>>
+    ensures { result ≡ reply_in config.now bytes.now }
+{
+    match Ip4View::read(bytes) {
+        Ok(packet) => reply_of(config, packet),
         Err(_) => None,
     }
 }

@@ -1,39 +1,33 @@
-use Rattle.std.proofs.Common.{◌≡◌, ◌<◌, [], length, refl, sym, ap, ◌∙◌}
+use Rattle.std.proofs.Common.{◌≡◌, ◌<◌, [], length, refl, ap}
 use Rattle.std.specs.Prelude.{Some}
-use Rattle.aftr_engine.specs.aftr_engine.Words.{paths_for}
-use Rattle.aftr_engine.specs.aftr_engine.Causes.{at_first, IsCommand, IsReported}
-use Rattle.plant_io.specs.Story.{content}
-use Rattle.std.proofs.Math.ListN.{set}
+use Rattle.plant_io.specs.Story.{sent}
+use Rattle.aftr_engine.specs.aftr_engine.Words.{command_for}
+use Rattle.aftr_engine.specs.aftr_engine.Causes.{at_first}
+use Rattle.aftr_engine.specs.declared.words.Command.TheVariants.{Run}
 use Rattle.aftr_engine.proofs.Sending.{gained_none}
-use Rattle.aftr_engine.proofs.Reasons.{reason_run, reason_words, first_is, first_set, some_input}
+use Rattle.aftr_engine.proofs.StopSteps.{accounted_start}
+use Rattle.aftr_engine.proofs.Reasons.{first_is, some_input}
 use Rattle.aftr_engine.proofs.engine.aftr.Goals as goal
-use Rattle.aftr_engine.proofs.engine.aftr.Goals.{in-Some, in-None}
+use Rattle.aftr_engine.proofs.engine.aftr.Goals.{in-Some-Run, in-Some-Trace, in-Some-Leases, in-None}
 
 pub returns-clause-part : goal.returns-clause-part
-returns-clause-part g c = λ reads tells. elim c.match-paths_of.branch [
-  | in-Some w ↦
-      let is : paths_for c.args.words.now ≡ Some w.in-Some.field-0 = sym c.paths_of.ensures ∙ w.in-Some.is in
-      let some : 0 < length c.args.inputs.now = some_input c.args.words.now w.in-Some.field-0 (length c.args.inputs.now) is c.requires in
+returns-clause-part g c = λ reads tells. elim c.match-command_of.branch [
+  | in-Some-Run w ↦
+      let is : command_for c.args.words.now ≡ Some Run = cc (c.command_of.ensures, w.in-Some-Run.is, w.in-Some-Run.field-0-is) in
+      let some : 0 < length c.args.inputs.now = some_input c.args.words.now (length c.args.inputs.now) is c.requires in
       rw (w.plant-is, first_is [] g.I.Source.rest c.args.inputs.now w.index-inputs-0.result some) (w.run-ended.ensures.part reads tells)
+  | in-Some-Trace w ↦ rw w.plant-is (gained_none _ _ _ (ap sent (w.trace-ended.ensures.same tells)))
+  | in-Some-Leases w ↦ rw w.plant-is (gained_none _ _ _ (ap sent (w.list-ended.ensures.same tells)))
   | in-None w ↦ rw w.plant-is (gained_none _ _ _ refl)
 ]
 
-pub returns-clause-reason : goal.returns-clause-reason
-returns-clause-reason g c = elim c.match-paths_of.branch [
-  | in-Some w ↦
-      let is : paths_for c.args.words.now ≡ Some w.in-Some.field-0 = sym c.paths_of.ensures ∙ w.in-Some.is in
-      let some : 0 < length c.args.inputs.now = some_input c.args.words.now w.in-Some.field-0 (length c.args.inputs.now) is c.requires in
-      let command : IsCommand (paths_for c.args.words.now) = λ none. absurd (cc (is, none)) in
-      let was : IsReported w.run-ended.result.status (record { before = g.R.Sink.faults c.args.report.now; after = g.R.Sink.faults c.reported.new.report }) c.reported.result.status =
-      rw (← w.ended-is) c.reported.ensures.status in
-      rw (w.cfg-is, w.inputs-is, w.plant-is)
-      (reason_run (paths_for c.args.words.now) (record {
-        config = record { before = g.C.Source.faults c.args.cfg.now; after = g.C.Source.faults w.run-ended.new.cfg };
-        input = record { before = at_first 0 g.I.Source.faults c.args.inputs.now; after = at_first 0 g.I.Source.faults (set c.args.inputs.now 0 w.run-ended.new.input) };
-        disk = record { before = g.P.Plant.disk_faults c.args.plant.now; after = g.P.Plant.disk_faults w.run-ended.new.plant };
-        outlet = record { before = g.P.Plant.out_faults c.args.plant.now; after = g.P.Plant.out_faults w.run-ended.new.plant };
-        report = record { before = g.R.Sink.faults c.args.report.now; after = g.R.Sink.faults c.reported.new.report };
-      }) g.C.Source.tells g.P.Plant.tells (g.C.Source.rest c.args.cfg.now) (content (g.P.Plant.story c.args.plant.now)) w.run-ended.result.status c.reported.result.status command
-      (rw (first_is 0 g.I.Source.faults c.args.inputs.now w.index-inputs-0.result some, first_set 0 g.I.Source.faults c.args.inputs.now w.run-ended.new.input some) w.run-ended.ensures.reason) was)
-  | in-None w ↦ reason_words _ _ c.match-paths_of.ended.status _ (sym c.paths_of.ensures ∙ w.in-None.is) (ap (λ e. e.status) w.ended-is ∙ w.before-ended.ensures) c.reported.ensures.status
+pub returns-clause-stops : goal.returns-clause-stops
+returns-clause-stops g c = λ reads tells. elim c.match-command_of.branch [
+  | in-Some-Run w ↦
+      let is : command_for c.args.words.now ≡ Some Run = cc (c.command_of.ensures, w.in-Some-Run.is, w.in-Some-Run.field-0-is) in
+      let some : 0 < length c.args.inputs.now = some_input c.args.words.now (length c.args.inputs.now) is c.requires in
+      rw (w.plant-is, first_is [] g.I.Source.rest c.args.inputs.now w.index-inputs-0.result some) (w.run-ended.ensures.stops reads tells)
+  | in-Some-Trace w ↦ rw (w.plant-is, w.trace-ended.ensures.same tells) (accounted_start (g.P.Plant.story c.args.plant.now) (at_first [] g.I.Source.rest c.args.inputs.now))
+  | in-Some-Leases w ↦ rw (w.plant-is, w.list-ended.ensures.same tells) (accounted_start (g.P.Plant.story c.args.plant.now) (at_first [] g.I.Source.rest c.args.inputs.now))
+  | in-None w ↦ rw w.plant-is (accounted_start (g.P.Plant.story c.args.plant.now) (at_first [] g.I.Source.rest c.args.inputs.now))
 ]

@@ -1,6 +1,7 @@
-use Rattle.std.proofs.Common.{◌++◌, arith}
+use Rattle.std.proofs.Common.{ℕ, List, ◌++◌, refl, ap, arith}
 use Rattle.plant_io.specs.Story.{content, sent}
-use Rattle.aftr_engine.proofs.RunSteps.{onward, are_few, way_sent, way_within}
+use Rattle.aftr_engine.proofs.RunSteps.{begun, onward, are_few, way_sent, way_within}
+use Rattle.aftr_engine.proofs.StopSteps.{accounted_start, empty_settled, way_stops}
 use Rattle.aftr_engine.proofs.session.Session.run.Goals as goal
 
 pub returns-in-End-clause-part : goal.returns-in-End-clause-part
@@ -40,7 +41,33 @@ loop-event-preserved g c = record {
       c.loop-event.self.gate c.pass.new.self c.in-Got.event
       c.loop-event.invariant.way c.in-Got.ensures.reads c.in-Got.ensures.advance.0 c.in-Got.ensures.advance.1
       c.in-Ok.ensures.state c.in-Ok.ensures.counts c.in-Ok.ensures.sent c.in-Ok.ensures.log c.in-Ok.ensures.size c.in-Ok.ensures.stands;
+  settled = c.in-Ok.ensures.settled;
+  stops = λ reads tells. way_stops _ _ _ _ _ _ _ _ _ _ _ _ _ c.in-Got.event c.loop-event.invariant.way reads tells (c.in-Got.ensures.reads reads)
+      (c.loop-event.invariant.stops reads tells) (c.in-Ok.ensures.stops tells);
   input_later = omega (arith, c.loop-event.invariant.input_later, c.in-Got.ensures.later);
   disk_later = omega (arith, c.loop-event.invariant.disk_later, c.in-Ok.ensures.disk_later);
   outlet_later = omega (arith, c.loop-event.invariant.outlet_later, c.in-Ok.ensures.outlet_later);
+}
+
+pub returns-in-Err-NoMemory-clause-stops : goal.returns-in-Err-NoMemory-clause-stops
+returns-in-Err-NoMemory-clause-stops g c = λ reads tells. way_stops _ _ _ _ _ _ _ _ _ _ _ _ _ c.in-Got.event c.loop-event.invariant.way reads tells (c.in-Got.ensures.reads reads)
+    (c.loop-event.invariant.stops reads tells) (c.in-Err-NoMemory.ensures.stops tells)
+
+pub returns-in-Err-Log-clause-stops : goal.returns-in-Err-Log-clause-stops
+returns-in-Err-Log-clause-stops g c = λ reads tells. way_stops _ _ _ _ _ _ _ _ _ _ _ _ _ c.in-Got.event c.loop-event.invariant.way reads tells (c.in-Got.ensures.reads reads)
+    (c.loop-event.invariant.stops reads tells) (c.in-Err-Log.ensures.stops tells)
+
+pub returns-in-Err-Outlet-clause-stops : goal.returns-in-Err-Outlet-clause-stops
+returns-in-Err-Outlet-clause-stops g c = λ reads tells. way_stops _ _ _ _ _ _ _ _ _ _ _ _ _ c.in-Got.event c.loop-event.invariant.way reads tells (c.in-Got.ensures.reads reads)
+    (c.loop-event.invariant.stops reads tells) (c.in-Err-Outlet.ensures.stops tells)
+
+pub loop-event-init : goal.loop-event-init
+loop-event-init g c = record {
+  way = begun _ _ _ _ _ _ _ _ _ _ _ (ap (λ (l : List ℕ). l ++ g.I.Source.rest c.args.input.now) c.requires.begun.held) c.requires.begun.offset c.requires.begun.state
+      c.requires.begun.log c.requires.begun.counts (λ tells. refl) c.requires.empty;
+  settled = λ tells. empty_settled (g.P.Plant.story c.args.plant.now) (c.requires.empty tells);
+  stops = λ reads tells. accounted_start (g.P.Plant.story c.args.plant.now) (g.I.Source.rest c.args.input.now);
+  input_later = omega arith;
+  disk_later = omega arith;
+  outlet_later = omega arith;
 }

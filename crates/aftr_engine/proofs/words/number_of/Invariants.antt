@@ -1,0 +1,10 @@
+use Rattle.std.proofs.Common.{◌≡◌, ◌≤◌, drop}
+use Rattle.aftr_engine.specs.aftr_engine.Words.{number_upto}
+use Rattle.aftr_engine.proofs.Numbers.{number_from}
+use Rattle.aftr_engine.proofs.words.number_of.Given as goal
+
+abbrev pub invariant-loop-digit : goal.invariant-loop-digit
+invariant-loop-digit l = record {
+  from : number_upto l.limit l.text ≡ number_from l.limit l.number (drop l.digit-index l.text);
+  within : l.number ≤ l.limit;
+}
