@@ -1,5 +1,8 @@
-# make build: proves and builds the program. make run: builds it and translates one packet. make test: the whole gate.
+# make build: proves and builds the program. make test: the whole gate.
+# make run: builds it, translates an input, and asks the log what it tells. The input is one packet; with
+# input=examples/reply.frames its reply comes back too, and a tick 300 s after the packet closes the lease.
 program := crates/aftr/out/aftr
+input := examples/first-packet.frames
 
 .PHONY: build run test
 
@@ -8,9 +11,11 @@ build:
 
 run: build
 	@folder=$$(mktemp -d) && trap 'rm -rf "$$folder"' EXIT && \
-	$(program) run examples/defaults.toml "$$folder/log" "$$folder/out" examples/first-packet.frames && \
+	$(program) run examples/defaults.toml "$$folder/log" "$$folder/out" $(input) && \
 	echo "outlet:" && od -An -v -tx1 "$$folder/out" && \
-	echo "log:" && od -An -v -tx1 "$$folder/log"
+	echo "log:" && od -An -v -tx1 "$$folder/log" && \
+	echo "leases:" && $(program) leases "$$folder/log" && \
+	echo "trace:" && $(program) trace "$$folder/log" 192.0.2.8 1024 1000000
 
 test:
 	@.ci/run
