@@ -10,6 +10,7 @@ ghost use Rattle.aftr_engine.specs.lease_log.Told.{told_by};
 ghost use Rattle.aftr_engine.specs.trace_query.Names.{name_of};
 ghost use Rattle.aftr_engine.specs.aftr_engine.Words.{command_for, paths_for, input_count};
 ghost use Rattle.aftr_engine.specs.aftr_engine.Causes.{at_first, IsCommand, IsRun, IsQuery, HasReason, IsFaultless, IsWhole, RefusesWords, RefusesConfig, RefusesLog, IsForConfig, IsForLog, IsForDamage, IsRefusal, EndsWith, IsAtRecordsEnd, Prints, PrintsFault, PrintsOf, IsReported, answer_text};
+ghost use Rattle.aftr_engine.specs.aftr_engine.Report.{drop_counts};
 ghost use Rattle.aftr_engine.specs.aftr_engine.EndToEnd.{output_of, log_of, counts_of, summary_of};
 ghost use Rattle.aftr_engine.specs.aftr_engine.Stops.{AccountsFor};
 ghost use Rattle.aftr_engine.specs.engine.Ended.{counts_between, RefusesBytes, RefusesSize, RunReason, QueryReason, RefusesQuery, IsBadText};
@@ -62,11 +63,12 @@ pub fn aftr<C: Source, I: Source, P: Plant, R: Sink>(
     ensures stops { I.tells → P.tells → StopsLeave (P.story plant.old) (P.story plant.new)
         (AccountsFor (at_first [] I.rest inputs.old) (sent (P.story plant.old))) }
 
-    // A query prints what the log's bytes tell, or names the damage, and changes nothing.
+    // A query prints what the log's bytes tell, or names the damage, changes nothing and drops nothing.
     ensures told { P.tells → R.tells → result.status ≡ Status.Ok →
         PrintsOf (content (P.story plant.old)) (R.written report.old) (R.written report.new) (command_for words.now) }
     ensures damage { P.tells → IsQuery (command_for words.now) → IsForDamage (told_by (content (P.story plant.old))) result.status }
     ensures kept { P.tells → IsQuery (command_for words.now) → P.story plant.new ≡ P.story plant.old }
+    ensures undropped { IsQuery (command_for words.now) → result.drops.0 ≡ drop_counts [] }
 
     // When each answer comes, whatever the objects tell.
     ensures reason { HasReason (command_for words.now)
@@ -134,6 +136,7 @@ impl Ended {
     fn before(status: Status) -> Self
         ensures status { result.status ≡ status }
         ensures answer { result.answer ≡ Answer.Summary }
+        ensures drops { result.tally.drops.0 ≡ drop_counts [] }
     {
         Ended {
             status,
@@ -147,6 +150,7 @@ impl Ended {
 fn answered(answer: Answer) -> Ended
     ensures status { result.status ≡ Status.Ok }
     ensures answer { result.answer ≡ answer }
+    ensures drops { result.tally.drops.0 ≡ drop_counts [] }
 {
     Ended {
         status: Status::Ok,
@@ -160,6 +164,7 @@ fn trace<P: Plant>(alloc: Global, plant: &mut P, addr: Ip4, port: u16, at: Momen
     ensures told { P.tells → result.status ≡ Status.Ok → (leases : List LeaseRow) × (told_by (content (P.story plant.old)) ≡ Whole leases) × (result.answer ≡ Name (name_of leases addr port at.0)) }
     ensures damage { P.tells → IsForDamage (told_by (content (P.story plant.old))) result.status }
     ensures same { P.tells → P.story plant.new ≡ P.story plant.old }
+    ensures drops { result.tally.drops.0 ≡ drop_counts [] }
     ensures reason { QueryReason (P.disk_faults plant.old) (P.disk_faults plant.new) result.status }
 {
     match read_leases(alloc, plant) {
@@ -173,6 +178,7 @@ fn list<P: Plant>(alloc: Global, plant: &mut P) -> Ended
     ensures told { P.tells → result.status ≡ Status.Ok → (leases : List LeaseRow) × (told_by (content (P.story plant.old)) ≡ Whole leases) × (result.answer ≡ Listed leases) }
     ensures damage { P.tells → IsForDamage (told_by (content (P.story plant.old))) result.status }
     ensures same { P.tells → P.story plant.new ≡ P.story plant.old }
+    ensures drops { result.tally.drops.0 ≡ drop_counts [] }
     ensures reason { QueryReason (P.disk_faults plant.old) (P.disk_faults plant.new) result.status }
 {
     match read_leases(alloc, plant) {
