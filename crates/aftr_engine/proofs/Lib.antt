@@ -3,6 +3,7 @@ mod WindowSteps
 mod WorkedRows
 pub mod Closings
 pub mod Counts
+pub mod Endings
 pub mod Forwarding
 pub mod FrameSteps
 pub mod Lines

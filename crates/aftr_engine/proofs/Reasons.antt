@@ -1,32 +1,15 @@
 -- Why a call ends as it does, from why its command did.
-use Rattle.std.proofs.Common.{◌≡◌, ◌≢◌, inl, inr, ℕ, ◌<◌, List, [], ◌∷◌, ◌++◌, length, get_or, refl, sym, ap, ◌∙◌, subst, arith}
+use Rattle.std.proofs.Common.{◌≡◌, inl, inr, ℕ, ◌<◌, List, [], ◌∷◌, length, get_or, refl, ap, ◌∙◌, arith}
 use Rattle.std.specs.Prelude.{Option, None, Some, option_map}
 use Rattle.std.proofs.Math.ListN.{set}
 use Rattle.aftr_base.specs.declared.outcome.Status.{Status}
 use Rattle.aftr_base.specs.declared.outcome.Status.TheVariants.{Ok, BadWords, BadConfig, BadInput, ReadFault, LogFault, OutFault, LogDamaged, LogFull, AlreadyThere, NoMemory}
 use Rattle.aftr_engine.specs.declared.words.Command.{Command}
 use Rattle.aftr_engine.specs.declared.words.Command.TheVariants.{Run}
-use Rattle.aftr_engine.specs.declared.engine.Answer.{Answer}
-use Rattle.aftr_engine.specs.declared.tally.Tally.{Tally}
-use Rattle.aftr_engine.specs.aftr_engine.Causes.{at_first, Counts, IsCommand, IsRun, IsQuery, HasReason, IsFaultless, IsWhole, EndsWith, IsReported, Prints}
+use Rattle.aftr_engine.specs.aftr_engine.Causes.{at_first, Counts, IsCommand, IsRun, IsQuery, HasReason, IsFaultless, IsWhole, EndsWith}
 use Rattle.aftr_engine.specs.link_records.Frames.{Stop, AtEnd}
-use Rattle.aftr_engine.specs.aftr_engine.Report.{fault_line}
 use Rattle.aftr_engine.specs.aftr_engine.Words.{paths_with, paths_for, command_for, input_count}
 use Rattle.aftr_engine.specs.engine.Ended.{RunReason, QueryReason}
-
--- what a fault prints
-pub prints_fault : (past now : List ℕ) (t : Tally) (a : Answer) (status : Status) → status ≢ Ok → status ≢ OutFault → now ≡ past ++ fault_line status → Prints past now t a status
-prints_fault past now t a Ok some h e = absurd (some refl)
-prints_fault past now t a BadWords some h e = e
-prints_fault past now t a (BadConfig key) some h e = e
-prints_fault past now t a (BadInput input offset) some h e = e
-prints_fault past now t a ReadFault some h e = e
-prints_fault past now t a LogFault some h e = e
-prints_fault past now t a OutFault some h e = absurd (h refl)
-prints_fault past now t a (LogDamaged offset) some h e = e
-prints_fault past now t a (LogFull tail need limit) some h e = e
-prints_fault past now t a (AlreadyThere size) some h e = e
-prints_fault past now t a NoMemory some h e = e
 
 run_is_command : (command : Option Command) → IsRun command → IsCommand command
 run_is_command None is = absurd is
@@ -36,7 +19,7 @@ query_is_command : (command : Option Command) → IsQuery command → IsCommand 
 query_is_command None is = absurd is
 query_is_command (Some c) is = λ e. absurd (cc)
 
-ran : (command : Option Command) (c : Counts) (C P : Type 0) (config log : List ℕ) (was : Status) → IsRun command
+pub ran : (command : Option Command) (c : Counts) (C P : Type 0) (config log : List ℕ) (was : Status) → IsRun command
     → RunReason C config P log c.config.before c.config.after c.input.before c.input.after c.disk.before c.disk.after c.outlet.before c.outlet.after was
     → HasReason command c was
 ran command c C P config log Ok is why = run_is_command command is
@@ -52,7 +35,7 @@ ran command c C P config log (LogFull tail need limit) is why = why
 ran command c C P config log (AlreadyThere size) is why = (is, why.1)
 ran command c C P config log NoMemory is why = run_is_command command is
 
-asked : (command : Option Command) (c : Counts) (was : Status) → IsQuery command → QueryReason c.disk.before c.disk.after was → HasReason command c was
+pub asked : (command : Option Command) (c : Counts) (was : Status) → IsQuery command → QueryReason c.disk.before c.disk.after was → HasReason command c was
 asked command c Ok is why = query_is_command command is
 asked command c BadWords is why = absurd why
 asked command c (BadConfig key) is why = absurd why
@@ -65,23 +48,7 @@ asked command c (LogFull tail need limit) is why = why
 asked command c (AlreadyThere size) is why = absurd why
 asked command c NoMemory is why = query_is_command command is
 
-reported_as : (command : Option Command) (c : Counts) (was now : Status) → IsReported was c.report now → HasReason command c was → HasReason command c now
-reported_as command c was now (inl same) why = subst (HasReason command c) (sym same) why
-reported_as command c was now (inr (failed, rose)) why = subst (HasReason command c) (sym failed) (inl rose)
-
-pub reason_run : (command : Option Command) (c : Counts) (C P : Type 0) (config log : List ℕ) (was now : Status) → command ≡ Some Run
-    → RunReason C config P log c.config.before c.config.after c.input.before c.input.after c.disk.before c.disk.after c.outlet.before c.outlet.after was
-    → IsReported was c.report now → HasReason command c now
-reason_run command c C P config log was now is why reported =
-    reported_as command c was now reported (ran command c C P config log was (subst IsRun (sym is) tt) why)
-
-pub reason_query : (command : Option Command) (c : Counts) (was now : Status) → IsQuery command → QueryReason c.disk.before c.disk.after was → IsReported was c.report now → HasReason command c now
-reason_query command c was now is why reported = reported_as command c was now reported (asked command c was is why)
-
-pub reason_words : (command : Option Command) (c : Counts) (was now : Status) → command ≡ None → was ≡ BadWords → IsReported was c.report now → HasReason command c now
-reason_words command c was now none bad reported = reported_as command c was now reported (subst (HasReason command c) (sym bad) none)
-
-ended_whole : (c : Counts) (C P : Type 0) (config log : List ℕ) (stop : Stop) (was : Status) → C → P → config ≡ [] → log ≡ [] → stop ≡ AtEnd → IsFaultless c
+pub ended_whole : (c : Counts) (C P : Type 0) (config log : List ℕ) (stop : Stop) (was : Status) → C → P → config ≡ [] → log ≡ [] → stop ≡ AtEnd → IsFaultless c
     → RunReason C config P log c.config.before c.config.after c.input.before c.input.after c.disk.before c.disk.after c.outlet.before c.outlet.after was
     → EndsWith stop was → IsWhole was
 ended_whole c C P config log stop Ok configs tells none empty end faultless why ends = tt
@@ -96,13 +63,6 @@ ended_whole c C P config log stop (LogDamaged offset) configs tells none empty e
 ended_whole c C P config log stop (LogFull tail need limit) configs tells none empty end faultless why ends = absurd why
 ended_whole c C P config log stop (AlreadyThere size) configs tells none empty end faultless why ends = absurd (omega (arith, why.1, why.2 tells, ap length empty))
 ended_whole c C P config log stop NoMemory configs tells none empty end faultless why ends = tt
-
-pub complete_run : (c : Counts) (C P : Type 0) (config log : List ℕ) (stop : Stop) (was now : Status) → C → P → config ≡ [] → log ≡ [] → stop ≡ AtEnd → IsFaultless c
-    → RunReason C config P log c.config.before c.config.after c.input.before c.input.after c.disk.before c.disk.after c.outlet.before c.outlet.after was
-    → EndsWith stop was → IsReported was c.report now → IsWhole now
-complete_run c C P config log stop was now configs tells none empty end faultless why ends (inl same) =
-    subst IsWhole (sym same) (ended_whole c C P config log stop was configs tells none empty end faultless why ends)
-complete_run c C P config log stop was now configs tells none empty end faultless why ends (inr (failed, rose)) = absurd (faultless.report rose)
 
 -- the first of a list
 pub first_is : {A B : Type 0} (d : B) (f : A → B) (xs : List A) (x : A) → 0 < length xs → at_first d f xs ≡ f (get_or xs 0 x)

@@ -5,3 +5,4 @@ pub mod Causes
 pub mod Progress
 pub mod EndToEnd
 pub mod Stops
+pub mod Reported

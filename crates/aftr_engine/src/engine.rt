@@ -9,7 +9,8 @@ ghost use Rattle.aftr_engine.specs.link_records.Frames.{frames_of, AtEnd};
 ghost use Rattle.aftr_engine.specs.lease_log.Told.{told_by};
 ghost use Rattle.aftr_engine.specs.trace_query.Names.{name_of};
 ghost use Rattle.aftr_engine.specs.aftr_engine.Words.{command_for, paths_for, input_count};
-ghost use Rattle.aftr_engine.specs.aftr_engine.Causes.{at_first, IsCommand, IsRun, IsQuery, HasReason, IsFaultless, IsWhole, RefusesWords, RefusesConfig, RefusesLog, IsForConfig, IsForLog, IsForDamage, IsRefusal, EndsWith, IsAtRecordsEnd, Prints, PrintsFault, PrintsOf, IsReported, answer_text};
+ghost use Rattle.aftr_engine.specs.aftr_engine.Causes.{at_first, IsCommand, IsRun, IsQuery, HasReason, IsFaultless, IsWhole, RefusesWords, RefusesConfig, RefusesLog, IsForConfig, IsForLog, IsForDamage, IsRefusal, EndsWith, IsAtRecordsEnd, Prints, PrintsFault, PrintsOf, IsReported, answer_text, text_of};
+ghost use Rattle.aftr_engine.specs.aftr_engine.Reported.{IsReportOf};
 ghost use Rattle.aftr_engine.specs.aftr_engine.Report.{drop_counts};
 ghost use Rattle.aftr_engine.specs.aftr_engine.EndToEnd.{output_of, log_of, counts_of, summary_of};
 ghost use Rattle.aftr_engine.specs.aftr_engine.Stops.{AccountsFor};
@@ -100,8 +101,13 @@ pub fn aftr<C: Source, I: Source, P: Plant, R: Sink>(
     ensures refused { P.tells → IsRefusal result.status → P.story plant.new ≡ P.story plant.old }
     ensures untouched { command_for words.now ≡ None → (cfg.new ≡ cfg.old) × (inputs.new ≡ inputs.old) × (plant.new ≡ plant.old) }
 
-    // A status other than Ok prints its one line.
+    // A status other than Ok prints its one line. Where the report fails, it has a first part of its text, and all else is
+    // as under the status whose text it was.
     ensures fault { R.tells → PrintsFault (R.written report.old) (R.written report.new) result.status }
+    ensures reported { IsReportOf C.tells I.tells P.tells R.tells (command_for words.now) (C.rest cfg.old) (at_first [] I.rest inputs.old)
+        (P.story plant.old) (P.story plant.new) (R.written report.old) (R.written report.new)
+        (counts_between C.faults cfg.old cfg.new I.faults inputs.old inputs.new P.disk_faults P.out_faults plant.old plant.new R.faults report.old report.new)
+        result.drops.0 result.status }
 {
     let ended = match command_of(words) {
         Some(Command::Run) => run(alloc, cfg, &mut inputs[0], plant),
@@ -285,6 +291,7 @@ fn reported<R: Sink>(alloc: Global, ended: Ended, report: &mut R) -> Outcome
     ensures drops { result.drops ≡ ended.tally.drops }
     ensures marks { result.marks ≡ [] }
     ensures text { R.tells → Prints (R.written report.old) (R.written report.new) ended.tally ended.answer result.status }
+    ensures part { R.tells → GainsPart (text_of ended.tally ended.answer ended.status) (R.written report.old) (R.written report.new) }
     ensures later { R.faults report.old ≤ R.faults report.new }
 {
     let printed = print(report, &ended);
@@ -308,7 +315,7 @@ fn reported<R: Sink>(alloc: Global, ended: Ended, report: &mut R) -> Outcome
 // Prints the summary of a run that ended well, or the line of its fault; an outlet that failed is not reported.
 fn print<R: Sink>(report: &mut R, ended: &Ended) -> Result<(), Failed>
     ensures text { R.tells → OnOk result (Prints (R.written report.old) (R.written report.new) ended.now.tally ended.now.answer ended.now.status) }
-    ensures part { R.tells → OnErr result ((more : List ℕ) × (R.written report.new ≡ R.written report.old ++ more)) }
+    ensures part { R.tells → GainsPart (text_of ended.now.tally ended.now.answer ended.now.status) (R.written report.old) (R.written report.new) }
     ensures cause { HasCause (R.faults report.old) (R.faults report.new) result }
 {
     match &ended.status {
@@ -321,7 +328,7 @@ fn print<R: Sink>(report: &mut R, ended: &Ended) -> Result<(), Failed>
 // Prints the answer of a command that ended well.
 fn print_answer<R: Sink>(report: &mut R, ended: &Ended) -> Result<(), Failed>
     ensures text { R.tells → OnOk result (R.written report.new ≡ R.written report.old ++ answer_text ended.now.tally ended.now.answer) }
-    ensures part { R.tells → OnErr result ((more : List ℕ) × (R.written report.new ≡ R.written report.old ++ more)) }
+    ensures part { R.tells → OnErr result (GainsPart (answer_text ended.now.tally ended.now.answer) (R.written report.old) (R.written report.new)) }
     ensures cause { HasCause (R.faults report.old) (R.faults report.new) result }
 {
     match &ended.answer {

@@ -143,7 +143,13 @@ answer_text t Summary = summary t.records t.sent t.drops.0
 answer_text t (Name name) = trace_line name
 answer_text t (Listed leases) = leases_text leases
 
--- that, or the line of the fault; a report or an outlet that failed has some more bytes
+-- the text of a status: that, or the line of a fault; an outlet that failed has none
+abbrev pub text_of : Tally → Answer → Status → List ℕ
+text_of t a Ok = answer_text t a
+text_of t a OutFault = []
+text_of t a other = fault_line other
+
+-- that text; a report or an outlet that failed has some more bytes
 abbrev pub Prints : List ℕ → List ℕ → Tally → Answer → Status → Type 0
 Prints past now t a Ok = now ≡ past ++ answer_text t a
 Prints past now t a OutFault = (more : List ℕ) × (now ≡ past ++ more)
