@@ -1,0 +1,478 @@
+"""A plain model of the program, written from its rules alone: what each command answers, and what it leaves in files.
+
+It is slow and short on purpose. Lists and dictionaries are searched, checksums are sums modulo 65535, and whole files
+are looked at; it shares no code and no order of work with the program.
+"""
+
+from __future__ import annotations
+
+import re
+import struct
+from collections import Counter
+from dataclasses import dataclass, field
+from typing import Dict, List, NamedTuple, Optional, Tuple
+
+AFTR = 0x2001_0DB8_0000_0000_0000_0000_0000_0001
+AGGREGATE = 0x2001_0DB8_0100_0000_0000_0000_0000_0000
+AGGREGATE_LENGTH = 40
+SUBSCRIBER_LENGTH = 56
+POOL = range(0xC000_0208, 0xC000_020C)  # 192.0.2.8/30
+BLOCK_SIZE = 512
+FIRST_PORTS = range(1024, 65536 - BLOCK_SIZE + 1, BLOCK_SIZE)
+IDLE = 300_000  # how long a UDP peer is kept (RFC 4787 4.3 asks for two minutes at least)
+HOLD = 120_000  # how long a closed block is kept from other subscribers (RFC 6888 3, REQ-8)
+MAX_PEERS = 16_384
+MAX_CLOSINGS = 512  # at one moment; the pool has 504 blocks, so no run comes to it
+MTU = 1500
+LAST_INPUT_MOMENT = 4_294_963_695_999
+LAST_MOMENT = 4_294_967_295_999
+
+SOFTWIRE, PUBLIC, TICK, CHANGE = 1, 2, 3, 4
+IPV4_IN_IPV6, UDP = 4, 17
+OPENING, CLOSING = 16, 17  # natEvent (RFC 8158)
+RECORD = struct.Struct(">QB16sBIHH")
+# The causes that are given today, in the order of the report.
+CAUSES = ("Settling", "NoProtocol", "QuotaPeers", "QuotaBlocks", "PoolEmpty", "NoMapping", "BadChange")
+
+Files = Dict[str, bytes]
+
+
+class Drop(Exception):
+    """A packet is dropped; the argument names the cause."""
+
+
+class Place(NamedTuple):
+    """An IPv4 address with a port."""
+
+    address: int
+    port: int
+
+
+class Prefix(NamedTuple):
+    """An IPv6 prefix."""
+
+    bits: int
+    length: int
+
+
+class Inner(NamedTuple):
+    """What a mapping is found by: inner addresses of different softwires may be the same (RFC 6333 6.6)."""
+
+    softwire: int
+    address: int
+    port: int
+
+
+class Record(NamedTuple):
+    """One record of the input."""
+
+    kind: int
+    moment: int
+    body: bytes
+
+
+@dataclass
+class Mapping:
+    """The external place of an inner one, with the remote addresses it sent to and the deadline of each."""
+
+    inner: Inner
+    place: Place
+    deadlines: Dict[int, int] = field(default_factory=dict)
+
+
+@dataclass
+class Lease:
+    """A block of ports that a subscriber has or had; open while it has no end. Both ends belong to it."""
+
+    owner: Prefix
+    address: int
+    first: int
+    last: int
+    since: int
+    until: Optional[int] = None
+
+    def holds(self, place: Place, moment: int) -> bool:
+        in_block = self.address == place.address and self.first <= place.port <= self.last
+        return in_block and self.since <= moment and (self.until is None or moment <= self.until)
+
+    def record(self, event: int, moment: int) -> bytes:
+        bits = self.owner.bits.to_bytes(16, "big")
+        return RECORD.pack(moment, event, bits, self.owner.length, self.address, self.first, self.last)
+
+
+# ---- packets
+
+
+def word(data: bytes, at: int) -> int:
+    return int.from_bytes(data[at : at + 2], "big")
+
+
+def number(data: bytes, at: int, size: int) -> int:
+    return int.from_bytes(data[at : at + size], "big")
+
+
+def sum_of(data: bytes) -> int:
+    """The sum of the 16-bit words of an even number of bytes."""
+    return sum(struct.unpack(f">{len(data) // 2}H", data))
+
+
+def updated(old_sum: int, old: bytes, new: bytes) -> int:
+    """A checksum field after `old` became `new` (RFC 1624, equation 3).
+
+    Its sum counts modulo 65535. Of both zeros the field gets the negative one only where all that is added is 0.
+    """
+    if old_sum == 0xFFFF and set(old) == {0xFF} and set(new) == {0}:
+        return 0xFFFF
+    return (old_sum + sum_of(old) - sum_of(new)) % 0xFFFF
+
+
+def udp_packet(data: bytes) -> bytes:
+    """The IPv4 packet that stands at the front, if it is whole, plain UDP with a hop to spare; else a drop."""
+    total = word(data, 2)
+    sound = (
+        len(data) >= 20
+        and data[0] == 0x45  # version 4 without options
+        and 20 <= total <= len(data)
+        and sum_of(data[:20]) % 0xFFFF == 0  # RFC 1071
+        and word(data, 6) & 0x3FFF == 0  # neither MF nor an offset
+        and data[8] >= 2
+        and data[9] == UDP
+        and 8 <= word(data, 24) <= total - 20  # RFC 768
+    )
+    if not sound:
+        raise Drop("NoProtocol")
+    return data[:total]
+
+
+def is_routed(address: int) -> bool:
+    octet = address >> 24
+    return 1 <= octet <= 223 and octet != 127
+
+
+def decapsulated(data: bytes) -> Tuple[int, bytes]:
+    """The softwire of a subscriber's packet (RFC 6333, RFC 8200) and the UDP packet in it, or a drop."""
+    length = word(data, 4)
+    sound = (
+        len(data) >= 40
+        and data[0] >> 4 == 6
+        and length <= len(data) - 40
+        and data[6] == IPV4_IN_IPV6
+        and number(data, 24, 16) == AFTR
+        and number(data, 8, 16) >> (128 - AGGREGATE_LENGTH) == AGGREGATE >> (128 - AGGREGATE_LENGTH)
+    )
+    if not sound:
+        raise Drop("NoProtocol")
+    packet = udp_packet(data[40 : 40 + length])
+    source, destination = number(packet, 12, 4), number(packet, 16, 4)
+    for_others = destination in POOL or 0xC000_0000 <= destination <= 0xC000_0007  # RFC 6333 5.7
+    if len(packet) > MTU or not is_routed(source) or not is_routed(destination) or for_others:
+        raise Drop("NoProtocol")
+    return number(data, 8, 16), packet
+
+
+def from_public(data: bytes) -> bytes:
+    """The UDP packet of the public side to the pool that fits a softwire, or a drop."""
+    packet = udp_packet(data)
+    source = number(packet, 12, 4)
+    to_pool = number(packet, 16, 4) in POOL
+    if len(packet) > MTU - 40 or not to_pool or source in POOL or not is_routed(source):
+        raise Drop("NoProtocol")
+    return packet
+
+
+def moved(packet: bytes, is_source: bool, place: Place) -> bytes:
+    """The packet with this place as source or destination and one hop less, its checksums updated."""
+    address_at, port_at = (12, 20) if is_source else (16, 22)
+    out = bytearray(packet)
+    out[8] -= 1
+    struct.pack_into(">I", out, address_at, place.address)
+    struct.pack_into(">H", out, port_at, place.port)
+
+    def parts(data: bytes, *ranges: Tuple[int, int]) -> bytes:
+        return b"".join(bytes(data[at : at + size]) for at, size in ranges)
+
+    ip_parts = ((8, 2), (address_at, 4))
+    udp_parts = ((address_at, 4), (port_at, 2))
+    struct.pack_into(">H", out, 10, updated(word(packet, 10), parts(packet, *ip_parts), parts(out, *ip_parts)))
+    if word(packet, 26) != 0:  # no checksum stays none, and a sum of 0 is sent as its other form (RFC 768)
+        new_sum = updated(word(packet, 26), parts(packet, *udp_parts), parts(out, *udp_parts))
+        struct.pack_into(">H", out, 26, new_sum or 0xFFFF)
+    return bytes(out)
+
+
+def encapsulated(packet: bytes, softwire: int) -> bytes:
+    """The packet behind an IPv6 header to a subscriber (RFC 2473)."""
+    head = struct.pack(">IHBB", 6 << 28 | packet[1] << 20, len(packet), IPV4_IN_IPV6, 64)
+    return head + AFTR.to_bytes(16, "big") + softwire.to_bytes(16, "big") + packet
+
+
+# ---- the input
+
+
+def frame(kind: int, moment: int, body: bytes) -> bytes:
+    return struct.pack(">IBQ", 9 + len(body), kind, moment) + body
+
+
+def records_of(data: bytes) -> Tuple[List[Record], Optional[int]]:
+    """The records from the start on, and the offset where none stands before the end, if there is one."""
+    records, at = [], 0
+    while at < len(data):
+        if len(data) - at < 13:
+            return records, at
+        length, kind, moment = struct.unpack_from(">IBQ", data, at)
+        fits = 9 <= length <= 65584 and at + 4 + length <= len(data)
+        if not fits or not SOFTWIRE <= kind <= CHANGE or kind == TICK and length > 9 or moment > LAST_INPUT_MOMENT:
+            return records, at
+        records.append(Record(kind, moment, data[at + 13 : at + 4 + length]))
+        at += 4 + length
+    return records, None
+
+
+# ---- the translator
+
+
+class Translator:
+    """All that a run keeps, sends, logs and counts."""
+
+    def __init__(self) -> None:
+        self.clock = 0
+        self.mappings: Dict[Inner, Mapping] = {}
+        self.leases: List[Lease] = []  # in order of opening
+        self.sent, self.log = bytearray(), bytearray()
+        self.records = self.packets = 0
+        self.drops: Counter[str] = Counter()
+
+    def treat(self, record: Record) -> None:
+        self.records += 1
+        if record.moment > self.clock:
+            self.clock = record.moment
+            self.expire()
+        try:
+            self.translate(record)
+        except Drop as drop:
+            self.drops[str(drop)] += 1
+
+    def expire(self) -> None:
+        """Peers go at their deadline, mappings with their last peer, leases with their last mapping."""
+        for mapping in self.mappings.values():
+            mapping.deadlines = {remote: end for remote, end in mapping.deadlines.items() if end > self.clock}
+        self.mappings = {inner: mapping for inner, mapping in self.mappings.items() if mapping.deadlines}
+        places = [mapping.place for mapping in self.mappings.values()]
+        used = {(place.address, place.port - place.port % BLOCK_SIZE) for place in places}
+        idle = [lease for lease in self.leases if lease.until is None and (lease.address, lease.first) not in used]
+        for lease in idle[:MAX_CLOSINGS]:
+            lease.until = self.clock
+            self.log += lease.record(CLOSING, self.clock)
+
+    def translate(self, record: Record) -> None:
+        if record.kind == CHANGE:
+            raise Drop("BadChange")
+        if record.kind == TICK:
+            return
+        if self.clock == 0:
+            raise Drop("Settling")
+        if record.kind == SOFTWIRE:
+            self.outbound(*decapsulated(record.body))
+        else:
+            self.inbound(from_public(record.body))
+
+    def outbound(self, softwire: int, packet: bytes) -> None:
+        inner = Inner(softwire, number(packet, 12, 4), word(packet, 20))
+        remote = number(packet, 16, 4)
+        mapping = self.mappings.get(inner)
+        if mapping is None:
+            mapping = self.mappings[inner] = Mapping(inner, self.new_place(subscriber_of(softwire)))
+        elif remote not in mapping.deadlines and self.peers_of(subscriber_of(softwire)) >= MAX_PEERS:
+            raise Drop("QuotaPeers")
+        mapping.deadlines[remote] = self.clock + IDLE
+        self.send(PUBLIC, moved(packet, True, mapping.place))
+
+    def inbound(self, packet: bytes) -> None:
+        place = Place(number(packet, 16, 4), word(packet, 22))
+        for mapping in self.mappings.values():
+            if mapping.place == place:
+                inner = mapping.inner
+                delivered = moved(packet, False, Place(inner.address, inner.port))
+                self.send(SOFTWIRE, encapsulated(delivered, inner.softwire))
+                return
+        raise Drop("NoMapping")
+
+    def peers_of(self, owner: Prefix) -> int:
+        return sum(len(row.deadlines) for inner, row in self.mappings.items() if subscriber_of(inner.softwire) == owner)
+
+    def new_place(self, owner: Prefix) -> Place:
+        """The least free port of the subscriber's open block, or the first of a block that it gets now."""
+        used = {mapping.place for mapping in self.mappings.values()}
+        for lease in self.leases:
+            if lease.owner == owner and lease.until is None:
+                for port in range(lease.first, lease.last + 1):
+                    if Place(lease.address, port) not in used:
+                        return Place(lease.address, port)
+                raise Drop("QuotaBlocks")
+        return self.new_lease(owner)
+
+    def new_lease(self, owner: Prefix) -> Place:
+        taken = {(lease.address, lease.first) for lease in self.leases if not self.is_over(lease, owner)}
+        for address in POOL:
+            for first in FIRST_PORTS:
+                if (address, first) not in taken:
+                    lease = Lease(owner, address, first, first + BLOCK_SIZE - 1, self.clock)
+                    self.leases.append(lease)
+                    self.log += lease.record(OPENING, self.clock)
+                    return Place(address, first)
+        raise Drop("PoolEmpty")
+
+    def is_over(self, lease: Lease, owner: Prefix) -> bool:
+        """Whether a lease stands in this subscriber's way no more: its own ones don't wait for the hold time."""
+        if lease.until is None:
+            return False
+        return lease.until + HOLD <= self.clock or (lease.owner == owner and lease.until < self.clock)
+
+    def send(self, kind: int, packet: bytes) -> None:
+        self.packets += 1
+        self.sent += frame(kind, self.clock, packet)
+
+    def summary(self) -> str:
+        lines = [f"records {self.records}", f"sent {self.packets}", "marks 0"]
+        lines += [f"drop {cause} {self.drops[cause]}" for cause in CAUSES if self.drops[cause]]
+        return "".join(line + "\n" for line in lines)
+
+
+def subscriber_of(softwire: int) -> Prefix:
+    rest = 128 - SUBSCRIBER_LENGTH
+    return Prefix(softwire >> rest << rest, SUBSCRIBER_LENGTH)
+
+
+# ---- the log
+
+
+def leases_of(log: bytes) -> Tuple[List[Lease], Optional[int]]:
+    """The leases that a log tells, in order of opening, and the offset of its first damage."""
+    leases: List[Lease] = []
+    for at in range(0, len(log), RECORD.size):
+        if not tells(log[at : at + RECORD.size], leases):
+            return leases, at
+    return leases, None
+
+
+def tells(record: bytes, leases: List[Lease]) -> bool:
+    """Applies one record to the leases told before it; false where it is damaged."""
+    if len(record) < RECORD.size:
+        return False
+    moment, event, bits, length, address, first, last = RECORD.unpack(record)
+    if moment > LAST_MOMENT:
+        return False
+    owner = Prefix(int.from_bytes(bits, "big"), length)
+    still_open = [lease for lease in leases if lease.until is None and lease.address == address]
+    if event == OPENING:
+        is_prefix = length <= 128 and owner.bits % (1 << (128 - length)) == 0
+        if not is_prefix or first > last or any(lease.first <= last and first <= lease.last for lease in still_open):
+            return False
+        leases.append(Lease(owner, address, first, last, moment))
+        return True
+    for lease in still_open if event == CLOSING else []:
+        if (lease.owner, lease.first, lease.last) == (owner, first, last) and lease.since <= moment:
+            lease.until = moment
+            return True
+    return False
+
+
+def prefix_text(prefix: Prefix) -> str:
+    digits = f"{prefix.bits:032x}"
+    return ":".join(digits[at : at + 4] for at in range(0, 32, 4)) + f"/{prefix.length}"
+
+
+def quad_text(address: int) -> str:
+    return ".".join(str(octet) for octet in address.to_bytes(4, "big"))
+
+
+def lease_line(lease: Lease) -> str:
+    until = "open" if lease.until is None else lease.until
+    block = f"{quad_text(lease.address)} {lease.first} {lease.last}"
+    return f"lease {block} {lease.since} {until} {prefix_text(lease.owner)}\n"
+
+
+def trace_line(leases: List[Lease], place: Place, moment: int) -> str:
+    for lease in leases:
+        if lease.holds(place, moment):
+            return f"named {prefix_text(lease.owner)}\n"
+    return "unheld\n"
+
+
+# ---- the commands
+
+
+@dataclass
+class Answer:
+    """The exit status, the report, and the files that are there afterwards."""
+
+    status: int
+    report: str
+    files: Files
+
+
+def is_word(text: str) -> bool:
+    is_text = not any(0xD800 <= ord(letter) <= 0xDFFF for letter in text)  # bytes that aren't UTF-8 are read as these
+    return is_text and text != "" and not text.startswith("-")
+
+
+def is_number(text: str, top: int) -> bool:
+    return re.fullmatch("[0-9]+", text) is not None and int(text) <= top
+
+
+def is_quad(text: str) -> bool:
+    octets = text.split(".")
+    return len(octets) == 4 and all(is_number(octet, 255) and str(int(octet)) == octet for octet in octets)
+
+
+def is_command(words: List[str]) -> bool:
+    if not words or not all(map(is_word, words)):
+        return False
+    if words[0] == "trace" and len(words) == 5:
+        return is_quad(words[2]) and is_number(words[3], 65535) and is_number(words[4], LAST_MOMENT)
+    return words[0] == "run" and len(words) == 5 or words[0] == "leases" and len(words) == 2
+
+
+def answer(words: List[str], before: Files) -> Answer:
+    """What the program does with these words in a folder of these files."""
+    if not is_command(words):
+        return Answer(1, "fault BadWords\n", before)
+    files = dict(before)
+    if words[0] == "run":
+        status, report = run(words[1:], files)
+    else:
+        status, report = query(words, files)
+    return Answer(status, report, files)
+
+
+def run(paths: List[str], files: Files) -> Tuple[int, str]:
+    config, log, outlet, source = paths
+    files.setdefault(log, b"")
+    files[outlet] = b""
+    if config not in files:
+        return 4, "fault ReadFault\n"
+    if files[config]:
+        return 2, "fault BadConfig text\n"
+    if files[log]:
+        return 9, f"fault AlreadyThere {len(files[log])}\n"
+    if source not in files:
+        return 4, "fault ReadFault\n"
+    translator = Translator()
+    records, bad_at = records_of(files[source])
+    for record in records:
+        translator.treat(record)
+    files[log], files[outlet] = bytes(translator.log), bytes(translator.sent)
+    if bad_at is not None:
+        return 3, f"fault BadInput 0 {bad_at}\n"
+    return 0, translator.summary()
+
+
+def query(words: List[str], files: Files) -> Tuple[int, str]:
+    log = files.setdefault(words[1], b"")
+    leases, damage = leases_of(log)
+    if damage is not None:
+        return 7, f"fault LogDamaged {damage}\n"
+    if words[0] == "leases":
+        return 0, "".join(map(lease_line, leases))
+    address = int.from_bytes(bytes(int(octet) for octet in words[2].split(".")), "big")
+    return 0, trace_line(leases, Place(address, int(words[3])), int(words[4]))
