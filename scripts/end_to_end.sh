@@ -120,6 +120,13 @@ run() {
     difference=""
 }
 
+# Runs the program on these words with its standard output closed, so that its report has nowhere to go.
+run_unheard() {
+    (cd "$work" && "$program" "$@" >&-)
+    status=$?
+    difference=""
+}
+
 # Notes a difference of this thing between what it is and what it should be.
 same() {
     if [ "$2" != "$3" ]; then
@@ -414,6 +421,37 @@ if [ -w /dev/full ]; then
     leaves "$first_sent" "$first_lease"
     count_case
 fi
+
+# Nor does a file take the place of a standard stream that is closed: the report goes nowhere, least of all into the log.
+start "a run that nobody hears" "$first_packet"
+run_unheard "${command[@]}"
+same status "$status" 6
+leaves "$first_sent" "$first_lease"
+count_case
+
+start_log "leases that nobody hears" "$first_lease"
+run_unheard leases log
+same status "$status" 6
+asks_only "$first_lease"
+count_case
+
+start_log "a trace that nobody hears" "$first_lease"
+run_unheard trace log 192.0.2.8 1024 1000000
+same status "$status" 6
+asks_only "$first_lease"
+count_case
+
+start "a refusal that nobody hears" "$first_packet"
+run_unheard run missing log out in0
+same status "$status" 6
+leaves "" ""
+count_case
+
+start "a refusal without any standard stream" "$first_packet"
+run_unheard run missing log out in0 <&- 2>&-
+same status "$status" 6
+leaves "" ""
+count_case
 
 echo "$passed passed, $failed failed"
 [ "$failed" -eq 0 ]

@@ -1,5 +1,5 @@
 //! What every object of the outside does with a call that fails.
-ghost use Rattle.std.specs.Prelude.{◌≡◌, IfOk, Ok};
+ghost use Rattle.std.specs.Prelude.{◌≡◌, ◌↔◌, IfOk, IsOk, IsSome, Ok};
 ghost use Rattle.plant_io.specs.Causes.{HasCause};
 
 use plant_io::Failed;
@@ -22,7 +22,9 @@ pub fn count_fault<T>(answer: io::Result<T>, faults: &mut u64) -> Result<T, Fail
 }
 
 /// The file, or the failure that each call meets where none could be opened.
-pub fn opened(file: &Option<File>) -> io::Result<&File> {
+pub fn opened(file: &Option<File>) -> io::Result<&File>
+    ensures { IsOk result ↔ IsSome file.now }
+{
     match file {
         Some(file) => Ok(file),
         None => Err(io::Error::from(ErrorKind::NotFound)),

@@ -1,5 +1,5 @@
 //! A log file and an outlet file.
-ghost use Rattle.std.specs.Prelude.{[], ◌≤◌, length, IfOk};
+ghost use Rattle.std.specs.Prelude.{◌≡◌, [], ◌≤◌, length, IfOk};
 
 use crate::faults::{count_fault, opened};
 use plant_io::{Failed, Plant};
@@ -22,7 +22,10 @@ impl FilePlant {
     /// The log at the first path, which is made where it is missing and else keeps its bytes, and the outlet at the second,
     /// which starts empty. Where one can't be opened every call on it fails; so it does without a path, and then no file is
     /// touched.
-    pub fn open(rt: &impl Files<File = File>, log: Option<&str>, outlet: Option<&str>) -> Self {
+    pub fn open(rt: &impl Files<File = File>, log: Option<&str>, outlet: Option<&str>) -> Self
+        ensures disk { result.disk_faults ≡ 0 }
+        ensures outlet { result.out_faults ≡ 0 }
+    {
         let log = match log {
             Some(path) => open_log(rt, path).ok(),
             None => None,

@@ -1,5 +1,5 @@
 //! A file that is read in order.
-ghost use Rattle.std.specs.Prelude.{[], ◌≤◌, length, IfOk};
+ghost use Rattle.std.specs.Prelude.{◌≡◌, [], ◌≤◌, length, IfOk};
 
 use crate::faults::{count_fault, opened};
 use plant_io::{Failed, Source};
@@ -18,7 +18,9 @@ pub struct FileSource {
 impl FileSource {
     /// The file at this path. Where it can't be opened every read fails; so it does without a path, and then no file is
     /// touched.
-    pub fn open(rt: &impl Files<File = File>, path: Option<&str>) -> Self {
+    pub fn open(rt: &impl Files<File = File>, path: Option<&str>) -> Self
+        ensures { result.faults ≡ 0 }
+    {
         let file = match path {
             Some(path) => File::open(rt, path).ok(),
             None => None,

@@ -2,7 +2,9 @@
 //! The report goes to standard output; nothing goes to standard error.
 #![tactic(auto)]
 
-ghost use Rattle.std.specs.Prelude.{◌≡◌, length, IfOk};
+ghost use Rattle.std.specs.Prelude.{◌≡◌, ◌++◌, length, IfOk};
+ghost use Rattle.aftr_engine.specs.aftr_engine.Causes.{IsReported};
+ghost use Rattle.aftr_engine.specs.aftr_engine.Report.{fault_line};
 ghost use Rattle.aftr_engine.specs.aftr_engine.Words.{input_count};
 
 mod ending;
@@ -94,7 +96,10 @@ fn call<R: Files<File = File> + AllocGlobal, S: Sink>(
 }
 
 // Memory ran out before the call: the report says so, as the call itself would.
-fn report_no_memory<S: Sink>(report: &mut S) -> Status {
+fn report_no_memory<S: Sink>(report: &mut S) -> Status
+    ensures status { IsReported Status.NoMemory (record { before = S.faults report.old; after = S.faults report.new }) result }
+    ensures text { S.tells → result ≡ Status.NoMemory → S.written report.new ≡ S.written report.old ++ fault_line Status.NoMemory }
+{
     match report.write(b"fault NoMemory\n") {
         Ok(()) => Status::NoMemory,
         Err(_) => Status::OutFault,
@@ -109,7 +114,18 @@ fn run<R: Files<File = File> + Env + AllocGlobal, S: Sink>(
     call(rt, &words, report)
 }
 
+// Takes the numbers of standard streams that are closed, so that no file gets one: the report would else be written into
+// the log. The folder is open for reading alone, so a write to it fails.
+fn hold_standard_streams<R: Files<File = File>>(rt: &R) -> [Option<File>; 3] {
+    [
+        File::open(rt, "/").ok(),
+        File::open(rt, "/").ok(),
+        File::open(rt, "/").ok(),
+    ]
+}
+
 fn main(rt: HostRuntime) -> ExitCode {
+    let _held = hold_standard_streams(&rt);
     let mut report = StdSink::new(io::writer(&rt));
     let status = match run(&rt, &mut report) {
         Ok(outcome) => outcome.status,

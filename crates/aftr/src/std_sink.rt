@@ -1,5 +1,5 @@
 //! Standard output.
-ghost use Rattle.std.specs.Prelude.{[]};
+ghost use Rattle.std.specs.Prelude.{◌≡◌, []};
 
 use crate::faults::count_fault;
 use plant_io::{Failed, Sink};
@@ -15,7 +15,9 @@ pub struct StdSink<W: Write + Drop> {
 
 impl<W: Write + Drop> StdSink<W> {
     /// What is written goes to this writer.
-    pub fn new(out: W) -> Self {
+    pub fn new(out: W) -> Self
+        ensures { result.faults ≡ 0 }
+    {
         StdSink { out, faults: 0 }
     }
 }

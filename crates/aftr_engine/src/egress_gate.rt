@@ -154,6 +154,7 @@ impl Gate {
         ensures outlet_later { P.out_faults plant.old ≤ P.out_faults plant.new }
         ensures disk { IsErrOf result PassFailed.Log → Rose (P.disk_faults plant.old) (P.disk_faults plant.new) }
         ensures outlet { IsErrOf result PassFailed.Outlet → Rose (P.out_faults plant.old) (P.out_faults plant.new) }
+        ensures memory { IsErrOf result PassFailed.NoMemory → plant.new ≡ plant.old }
     {
         let cause = self.batch.fill(alloc, core, event)?;
         commit_and_send(

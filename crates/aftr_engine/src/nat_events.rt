@@ -71,7 +71,7 @@ fn block_record(opens: bool, at: Moment, lease: &LeaseRow) -> [u8; RECORD_LEN]
     bytes
 }
 
-// natEvent of a block that opens or closes (RFC 8158 4.1).
+// natEvent of a block that opens or closes (RFC 8158 4.3).
 fn event_number(opens: bool) -> u8
     ensures { result ≡ event_number opens }
 {

@@ -41,7 +41,11 @@ pub struct StepOut {
 
 impl StepOut {
     /// Nothing, which takes no memory.
-    pub fn new(alloc: Global) -> Self {
+    pub fn new(alloc: Global) -> Self
+        ensures items { result.items ≡ [] }
+        ensures closings { result.closings ≡ [] }
+        ensures openings { result.openings ≡ [] }
+    {
         StepOut {
             items: List::new(alloc),
             closings: List::new(alloc),

@@ -5,7 +5,7 @@ use Rattle.aftr_base.specs.Bytes.{be16, be32, be64, be128}
 use Rattle.aftr_base.specs.declared.row.LeaseRow.{LeaseRow}
 use Rattle.aftr_base.specs.declared.value.Moment.{Moment}
 
--- natEvent: 16 says that a block opens, 17 that it closes (RFC 8158 4.1, IANA)
+-- natEvent: 16 says that a block opens, 17 that it closes (RFC 8158 4.3, IANA)
 abbrev pub event_number : Bool → ℕ
 event_number opens = if opens then 16 else 17
 

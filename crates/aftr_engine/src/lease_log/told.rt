@@ -17,7 +17,7 @@ use std::alloc::Global;
 /// The greatest moment of a record, in milliseconds: the last second of a 32-bit clock.
 const LOG_MOMENT_LIMIT: u64 = 4_294_967_295_999;
 
-// natEvent of a block that opens, and of one that closes (RFC 8158 4.1)
+// natEvent of a block that opens, and of one that closes (RFC 8158 4.3)
 const OPENS: u8 = 16;
 
 const CLOSES: u8 = 17;

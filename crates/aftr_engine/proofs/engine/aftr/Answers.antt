@@ -44,8 +44,15 @@ returns-clause-reported g c = elim c.match-command_of.branch [
       let shown = rw w.ended-is at c.reported.ensures in
       let is : command_for c.args.words.now ≡ Some Run = cc (c.command_of.ensures, w.in-Some-Run.is, w.in-Some-Run.field-0-is) in
       let some : 0 < length inputs = some_input c.args.words.now (length inputs) is c.requires in
-      rw (w.cfg-is, w.inputs-is, w.plant-is, first_is [] g.I.Source.rest inputs w.index-inputs-0.result some,
-      first_is 0 g.I.Source.faults inputs w.index-inputs-0.result some, first_set 0 g.I.Source.faults inputs w.run-ended.new.input some, shown.drops)
+      rw (
+        w.cfg-is,
+        w.inputs-is,
+        w.plant-is,
+        first_is [] g.I.Source.rest inputs w.index-inputs-0.result some,
+        first_is 0 g.I.Source.faults inputs w.index-inputs-0.result some,
+        first_set 0 g.I.Source.faults inputs w.run-ended.new.input some,
+        shown.drops,
+      )
       (record {
         was = ended.status;
         answers = shown.status;
@@ -53,10 +60,11 @@ returns-clause-reported g c = elim c.match-command_of.branch [
             ended_run g.C.Source.tells g.I.Source.tells g.P.Plant.tells (command_for c.args.words.now) (g.C.Source.rest c.args.cfg.now) input
             (g.P.Plant.story c.args.plant.now) (g.P.Plant.story w.run-ended.new.plant) _ ended.tally.drops.0 ended.status is
             done.sent done.log (λ reads end. (done.counts reads end).drops) done.reason done.input done.refused;
-        prints = λ told.
-            (text_of ended.tally ended.answer ended.status,
-            text_of_run g.I.Source.tells g.P.Plant.tells (command_for c.args.words.now) input file ended.tally ended.answer ended.status is done.answer done.counts,
-            shown.part told);
+        prints = λ told. (
+          text_of ended.tally ended.answer ended.status,
+          text_of_run g.I.Source.tells g.P.Plant.tells (command_for c.args.words.now) input file ended.tally ended.answer ended.status is done.answer done.counts,
+          shown.part told,
+        );
       })
   | in-Some-Trace w ↦
       let input = at_first [] g.I.Source.rest c.args.inputs.now in
@@ -73,11 +81,12 @@ returns-clause-reported g c = elim c.match-command_of.branch [
             ended_query g.C.Source.tells g.I.Source.tells g.P.Plant.tells (command_for c.args.words.now) (g.C.Source.rest c.args.cfg.now) input
             (g.P.Plant.story c.args.plant.now) (g.P.Plant.story w.trace-ended.new.plant) _ ended.tally.drops.0 ended.status
             (subst IsQuery (sym is) tt) done.damage done.reason done.same;
-        prints = λ told.
-            (text_of ended.tally ended.answer ended.status,
-            text_of_trace g.I.Source.tells g.P.Plant.tells (command_for c.args.words.now) w.in-Some-Trace.addr w.in-Some-Trace.port w.in-Some-Trace.at input file
-            ended.tally ended.answer ended.status is done.told,
-            shown.part told);
+        prints = λ told. (
+          text_of ended.tally ended.answer ended.status,
+          text_of_trace g.I.Source.tells g.P.Plant.tells (command_for c.args.words.now) w.in-Some-Trace.addr w.in-Some-Trace.port w.in-Some-Trace.at input file
+              ended.tally ended.answer ended.status is done.told,
+          shown.part told,
+        );
       })
   | in-Some-Leases w ↦
       let input = at_first [] g.I.Source.rest c.args.inputs.now in
@@ -94,10 +103,11 @@ returns-clause-reported g c = elim c.match-command_of.branch [
             ended_query g.C.Source.tells g.I.Source.tells g.P.Plant.tells (command_for c.args.words.now) (g.C.Source.rest c.args.cfg.now) input
             (g.P.Plant.story c.args.plant.now) (g.P.Plant.story w.list-ended.new.plant) _ ended.tally.drops.0 ended.status
             (subst IsQuery (sym is) tt) done.damage done.reason done.same;
-        prints = λ told.
-            (text_of ended.tally ended.answer ended.status,
-            text_of_leases g.I.Source.tells g.P.Plant.tells (command_for c.args.words.now) input file ended.tally ended.answer ended.status is done.told,
-            shown.part told);
+        prints = λ told. (
+          text_of ended.tally ended.answer ended.status,
+          text_of_leases g.I.Source.tells g.P.Plant.tells (command_for c.args.words.now) input file ended.tally ended.answer ended.status is done.told,
+          shown.part told,
+        );
       })
   | in-None w ↦
       let input = at_first [] g.I.Source.rest c.args.inputs.now in
@@ -113,9 +123,10 @@ returns-clause-reported g c = elim c.match-command_of.branch [
             ended_words g.C.Source.tells g.I.Source.tells g.P.Plant.tells (command_for c.args.words.now) (g.C.Source.rest c.args.cfg.now) input
             (g.P.Plant.story c.args.plant.now) (g.P.Plant.story c.args.plant.now) _ ended.tally.drops.0 ended.status
             is w.before-ended.ensures.status refl;
-        prints = λ told.
-            (text_of ended.tally ended.answer ended.status,
-            text_of_words g.I.Source.tells g.P.Plant.tells (command_for c.args.words.now) input file ended.tally ended.answer ended.status w.before-ended.ensures.status,
-            shown.part told);
+        prints = λ told. (
+          text_of ended.tally ended.answer ended.status,
+          text_of_words g.I.Source.tells g.P.Plant.tells (command_for c.args.words.now) input file ended.tally ended.answer ended.status w.before-ended.ensures.status,
+          shown.part told,
+        );
       })
 ]
