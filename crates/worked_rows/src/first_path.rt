@@ -1,0 +1,68 @@
+//! From a subscriber's packet to the public side.
+
+use crate::case::{Case, ONE_PACKET, RUN};
+use crate::driver::{check_all, check_all_without_faults};
+use crate::packets::{
+    ELSEWHERE, FIRST_LOGGED, FIRST_SENT, HEAD, INNER, NEXT_HEAD, OTHER, OTHER_LOGGED, OTHER_SENT,
+    PACKET, TUNNEL, UNSUMMED,
+};
+
+static PACKETS: [Case<'static>; 4] = [
+    Case {
+        name: "no packet",
+        ..RUN
+    },
+    ONE_PACKET,
+    Case {
+        name: "endpoint independence: the same place to another destination",
+        input: &[HEAD, PACKET, "00000051 01 00000000000f4434", ELSEWHERE],
+        report: "records 2\nsent 2\nmarks 0\n",
+        sent: &[
+            FIRST_SENT,
+            "00000029 02 00000000000f4434
+            4500 0020 0001 0000 3f 11 7dbd c0000208 cb007106 0400 0035 000c 38cb 61626364",
+        ],
+        ..ONE_PACKET
+    },
+    Case {
+        name: "overlapping inner addresses",
+        input: &[HEAD, PACKET, NEXT_HEAD, OTHER],
+        report: "records 2\nsent 2\nmarks 0\n",
+        sent: &[FIRST_SENT, OTHER_SENT],
+        log_after: &[FIRST_LOGGED, OTHER_LOGGED],
+        ..RUN
+    },
+];
+
+static CHECKSUMS: [Case<'static>; 2] = [
+    Case {
+        name: "a UDP checksum of 0 stays",
+        input: &[HEAD, TUNNEL, INNER, UNSUMMED],
+        sent: &[
+            "00000029 02 00000000000f4240
+            4500 0020 0001 0000 3f 11 7dbe c0000208 cb007105 0400 0035 000c 0000 61626364",
+        ],
+        ..ONE_PACKET
+    },
+    Case {
+        name: "a UDP checksum that becomes 0 is sent as all ones",
+        input: &[HEAD, TUNNEL, INNER, "1388 0035 000c f27d 61629c30"],
+        sent: &[
+            "00000029 02 00000000000f4240
+            4500 0020 0001 0000 3f 11 7dbe c0000208 cb007105 0400 0035 000c ffff 61629c30",
+        ],
+        ..ONE_PACKET
+    },
+];
+
+#[test]
+fn packets_go_out(rt: HostRuntime) {
+    check_all(&rt, &PACKETS);
+    check_all_without_faults(&rt, &PACKETS);
+}
+
+#[test]
+fn udp_checksums(rt: HostRuntime) {
+    check_all(&rt, &CHECKSUMS);
+    check_all_without_faults(&rt, &CHECKSUMS);
+}

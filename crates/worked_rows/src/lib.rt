@@ -1,0 +1,16 @@
+//! Tests that cross crates: the program's one call over objects in memory, against packets, logs and reports whose
+//! bytes were worked out by hand.
+//!
+//! A test is a table of cases and one call of the driver, which makes the only call of the program.
+#![tactic(auto)]
+
+#[cfg(test)]
+mod case;
+#[cfg(test)]
+mod driver;
+#[cfg(test)]
+mod first_path;
+#[cfg(test)]
+mod octets;
+#[cfg(test)]
+mod packets;
