@@ -9,8 +9,14 @@ mod case;
 #[cfg(test)]
 mod driver;
 #[cfg(test)]
+mod expiry;
+#[cfg(test)]
 mod first_path;
 #[cfg(test)]
 mod octets;
 #[cfg(test)]
 mod packets;
+#[cfg(test)]
+mod refusals;
+#[cfg(test)]
+mod replies;
