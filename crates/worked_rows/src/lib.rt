@@ -17,6 +17,10 @@ mod octets;
 #[cfg(test)]
 mod packets;
 #[cfg(test)]
+mod queries;
+#[cfg(test)]
 mod refusals;
 #[cfg(test)]
 mod replies;
+#[cfg(test)]
+mod words;
