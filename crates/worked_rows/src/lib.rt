@@ -11,13 +11,19 @@ mod driver;
 #[cfg(test)]
 mod expiry;
 #[cfg(test)]
+mod faults;
+#[cfg(test)]
 mod first_path;
 #[cfg(test)]
 mod octets;
 #[cfg(test)]
 mod packets;
 #[cfg(test)]
+mod pieces;
+#[cfg(test)]
 mod queries;
+#[cfg(test)]
+mod quotas;
 #[cfg(test)]
 mod refusals;
 #[cfg(test)]

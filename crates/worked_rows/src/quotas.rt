@@ -1,0 +1,145 @@
+//! What one subscriber gets, and what all of them get together.
+ghost use Rattle.std.specs.Prelude.{◌<◌};
+
+use crate::case::{Case, RUN};
+use crate::driver::check;
+use aftr_base::DropCause;
+use std::process::Abort;
+
+// A run of many packets without UDP checksums, so that none changes with a port: what it is handed, and what it leaves.
+#[derive(Drop)]
+struct Many {
+    input: String,
+    sent: String,
+    log: String,
+}
+
+impl Many {
+    fn new<R: AllocGlobal>(rt: &R) -> Self {
+        Many {
+            input: String::new(rt.alloc()),
+            sent: String::new(rt.alloc()),
+            log: String::new(rt.alloc()),
+        }
+    }
+
+    // A packet from this port of the subscriber whose prefix has this number.
+    fn add_packet<R: Abort + AllocGlobal>(&mut self, rt: &R, subscriber: u16, port: u16) {
+        let record = format!(in rt.alloc();
+            "00000051 01 00000000000f4240 60000000 0020 04 40
+            20010db801{subscriber:04x}000000000000000002 20010db8000000000000000000000001
+            4500 0020 0001 0000 40 11 7ec4 c0000002 cb007105 {port:04x} 0035 000c 0000 61626364\n"
+        );
+        add(
+            rt,
+            &mut self.input,
+            record.expect(rt, "memory for a packet").as_str(),
+        );
+    }
+
+    // The packet as it goes out from this port of this one of the pool's four addresses.
+    fn add_sent<R: Abort + AllocGlobal>(&mut self, rt: &R, addr: u16, port: u16)
+        requires { addr < 4 }
+    {
+        let low = 0x0208 + addr;
+        let checksum = 0x7dbe - addr;
+        let record = format!(in rt.alloc();
+            "00000029 02 00000000000f4240
+            4500 0020 0001 0000 3f 11 {checksum:04x} c000{low:04x} cb007105
+            {port:04x} 0035 000c 0000 61626364\n"
+        );
+        add(
+            rt,
+            &mut self.sent,
+            record.expect(rt, "memory for a packet").as_str(),
+        );
+    }
+
+    // The opening of the block that begins at this port, which is a multiple of the block's size.
+    fn add_block<R: Abort + AllocGlobal>(&mut self, rt: &R, subscriber: u16, addr: u16, first: u16)
+        requires { addr < 4 }
+    {
+        let low = 0x0208 + addr;
+        let last = first | 511;
+        let record = format!(in rt.alloc();
+            "00000000000f4240 10
+            20010db801{subscriber:04x}000000000000000000 38 c000{low:04x} {first:04x} {last:04x}\n"
+        );
+        add(
+            rt,
+            &mut self.log,
+            record.expect(rt, "memory for a record").as_str(),
+        );
+    }
+}
+
+fn add<R: Abort>(rt: &R, text: &mut String, more: &str) {
+    text.push_str(more).expect(rt, "memory for a text");
+}
+
+// Compares what a run of many packets leaves with this case, but for the packets and the log.
+fn check_many<'a, R: Abort + AllocGlobal>(rt: &R, case: &Case<'a>, many: &'a Many) {
+    check(
+        rt,
+        &Case {
+            input: &[many.input.as_str()],
+            sent: &[many.sent.as_str()],
+            log_after: &[many.log.as_str()],
+            ..*case
+        },
+    );
+}
+
+// A packet of a subscriber for each of the 126 blocks of an address.
+fn add_blocks<R: Abort + AllocGlobal>(rt: &R, many: &mut Many, addr: u16)
+    requires { addr < 4 }
+{
+    for block in 0..126 {
+        let subscriber = 126 * addr + block;
+        let first = 1024 + 512 * block;
+        many.add_packet(rt, subscriber, 5000);
+        many.add_sent(rt, addr, first);
+        many.add_block(rt, subscriber, addr, first);
+    }
+}
+
+static PORTS: Case<'static> = Case {
+    name: "one port too many",
+    report: "records 514\nsent 513\nmarks 0\ndrop QuotaBlocks 1\n",
+    drops: &[(DropCause::QuotaBlocks, 1)],
+    ..RUN
+};
+
+static BLOCKS: Case<'static> = Case {
+    name: "one subscriber too many",
+    report: "records 505\nsent 504\nmarks 0\ndrop PoolEmpty 1\n",
+    drops: &[(DropCause::PoolEmpty, 1)],
+    ..RUN
+};
+
+#[test]
+fn a_subscriber_has_512_ports(rt: HostRuntime) {
+    let mut many = Many::new(&rt);
+    many.add_block(&rt, 0, 0, 1024);
+    for port in 5000..5512 {
+        many.add_packet(&rt, 0, port);
+    }
+    for port in 1024..1536 {
+        many.add_sent(&rt, 0, port);
+    }
+    // One port too many, and then the last one again, which keeps its place.
+    many.add_packet(&rt, 0, 5512);
+    many.add_packet(&rt, 0, 5511);
+    many.add_sent(&rt, 0, 1535);
+    check_many(&rt, &PORTS, &many);
+}
+
+#[test]
+fn the_pool_has_504_blocks(rt: HostRuntime) {
+    let mut many = Many::new(&rt);
+    for addr in 0..4 {
+        add_blocks(&rt, &mut many, addr);
+    }
+    many.add_packet(&rt, 504, 5000);
+    check_many(&rt, &BLOCKS, &many);
+}
