@@ -422,6 +422,17 @@ if [ -w /dev/full ]; then
     count_case
 fi
 
+start "an outlet that can't be opened, and nothing to send" "00000009 03 00000000000f4240"
+run run config.toml log missing/out in0
+leaves missing ""
+ends_with 0 "records 1" "sent 0" "marks 0"
+
+start "an outlet that can't be opened, and a packet" "$first_packet"
+run run config.toml log missing/out in0
+same status "$status" 6
+leaves missing "$first_lease"
+count_case
+
 # Nor does a file take the place of a standard stream that is closed: the report goes nowhere, least of all into the log.
 start "a run that nobody hears" "$first_packet"
 run_unheard "${command[@]}"

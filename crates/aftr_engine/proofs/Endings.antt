@@ -19,6 +19,7 @@ use Rattle.aftr_engine.specs.lease_log.Told.{told_by}
 use Rattle.aftr_engine.specs.trace_query.Names.{name_of}
 use Rattle.aftr_engine.specs.aftr_engine.Report.{fault_line, summary}
 use Rattle.aftr_engine.specs.aftr_engine.EndToEnd.{run_of, output_of, log_of, counts_of, summary_of}
+use Rattle.aftr_engine.specs.aftr_engine.Fronts.{HasCome}
 use Rattle.aftr_engine.specs.aftr_engine.Causes.{Counts, IsRun, IsQuery, RefusesConfig, RefusesLog, IsForConfig, IsForLog, IsForDamage, IsRefusal, EndsWith, IsAtRecordsEnd, answer_text, text_of}
 use Rattle.aftr_engine.specs.aftr_engine.Reported.{HasEnded, IsAnswerOf, IsTextOf}
 use Rattle.aftr_engine.specs.engine.Ended.{RunReason, QueryReason}
@@ -117,17 +118,19 @@ pub ended_run : (C I P : Type 0) (command : Option Command) (config input : List
     → (I → P → IsAtRecordsEnd was → sent after ≡ sent before ++ output_of input)
     → (I → P → IsAtRecordsEnd was → content after ≡ log_of input)
     → (I → IsAtRecordsEnd was → drops ≡ counts_of input)
+    → (I → P → HasCome input before after drops was)
     → RanFor C config P (content before) c was
     → (I → EndsWith (frames_of input).stop was)
     → (P → IsRefusal was → after ≡ before)
     → HasEnded C I P command config input before after c drops was
-ended_run C I P command config input before after c drops was is packets leases counts why ends kept =
+ended_run C I P command config input before after c drops was is packets leases counts come why ends kept =
     let log = content before in
     let runs : IsRun command = subst IsRun (sym is) tt in
     record {
       packets = λ reads tells _ end. packets reads tells end;
       leases = λ reads tells _ end. leases reads tells end;
       counts = λ reads _ end. counts reads end;
+      front = λ reads tells _. come reads tells;
       whole = λ configs reads tells _ no_config no_log end faultless.
           ended_whole c C P config log (frames_of input).stop was configs tells no_config no_log end faultless why (ends reads);
       damage = λ tells query. absurd (run_is_no_query command is query);
@@ -210,6 +213,7 @@ ended_query C I P command config input before after c drops was query damage why
       packets = λ reads tells runs end. absurd (runs_not runs);
       leases = λ reads tells runs end. absurd (runs_not runs);
       counts = λ reads runs end. absurd (runs_not runs);
+      front = λ reads tells runs. absurd (runs_not runs);
       whole = λ configs reads tells runs no_config no_log end faultless. absurd (runs_not runs);
       damage = λ tells _. damage tells;
       reason = asked command c was query why;
@@ -246,6 +250,7 @@ ended_words C I P command config input before after c drops was no_command bad s
       packets = λ reads tells runs end. absurd (runs_not runs);
       leases = λ reads tells runs end. absurd (runs_not runs);
       counts = λ reads runs end. absurd (runs_not runs);
+      front = λ reads tells runs. absurd (runs_not runs);
       whole = λ configs reads tells runs no_config no_log end faultless. absurd (runs_not runs);
       damage = λ tells _. tt;
       reason = no_command;

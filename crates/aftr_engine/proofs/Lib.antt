@@ -6,6 +6,7 @@ pub mod Counts
 pub mod Endings
 pub mod Forwarding
 pub mod FrameSteps
+pub mod FrontSteps
 pub mod Lines
 pub mod Numbers
 pub mod Peers

@@ -5,4 +5,5 @@ pub mod Causes
 pub mod Progress
 pub mod EndToEnd
 pub mod Stops
+pub mod Fronts
 pub mod Reported

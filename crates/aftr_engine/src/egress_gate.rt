@@ -1,5 +1,5 @@
 //! One record after another through the translator: the log takes what it says before its packets are sent.
-ghost use Rattle.std.specs.Prelude.{◌≡◌, ◌≤◌, ◌<◌, ◌+◌, ◌^◌, ◌++◌, length, IfOk, OnOk, IsErrOf};
+ghost use Rattle.std.specs.Prelude.{◌≡◌, ◌≤◌, ◌<◌, ◌+◌, ◌^◌, ◌++◌, length, IfOk, OnOk, OnErr, IsErrOf};
 ghost use Rattle.plant_io.specs.Causes.{Rose};
 ghost use Rattle.plant_io.specs.Sink.{GainsPart};
 ghost use Rattle.plant_io.specs.Story.{content, sent, IsSettled};
@@ -155,6 +155,10 @@ impl Gate {
         ensures disk { IsErrOf result PassFailed.Log → Rose (P.disk_faults plant.old) (P.disk_faults plant.new) }
         ensures outlet { IsErrOf result PassFailed.Outlet → Rose (P.out_faults plant.old) (P.out_faults plant.new) }
         ensures memory { IsErrOf result PassFailed.NoMemory → plant.new ≡ plant.old }
+        ensures uncounted { OnErr result (self.new ≡ self.old) }
+        ensures unsent { P.tells → IsErrOf result PassFailed.Log → sent (P.story plant.new) ≡ sent (P.story plant.old) }
+        ensures logged { P.tells → IsErrOf result PassFailed.Outlet →
+            content (P.story plant.new) ≡ content (P.story plant.old) ++ logged_by (step core.old event.now) }
     {
         let cause = self.batch.fill(alloc, core, event)?;
         commit_and_send(
@@ -179,7 +183,7 @@ fn encode(items: &[Item], out: &mut List<u8>) -> Result<(), NoMemory>
     Ok(())
 }
 
-// Logs the records and then sends the packets: never a byte before the records are synced.
+// Logs the records and then sends the packets, if there are any: never a byte before the records are synced.
 fn commit_and_send<P: Plant>(
     journal: &mut Journal,
     plant: &mut P,
@@ -199,6 +203,8 @@ fn commit_and_send<P: Plant>(
     ensures stops { P.tells → StopsLeave (P.story plant.old) (P.story plant.new) (LogsFirst (P.story plant.old) records.now packets.now) }
 
     ensures memory { IsErrOf result PassFailed.NoMemory → ⊥ }
+    ensures unsent { P.tells → IsErrOf result PassFailed.Log → sent (P.story plant.new) ≡ sent (P.story plant.old) }
+    ensures logged { P.tells → IsErrOf result PassFailed.Outlet → content (P.story plant.new) ≡ content (P.story plant.old) ++ records.now }
     ensures disk_later { P.disk_faults plant.old ≤ P.disk_faults plant.new }
     ensures outlet_later { P.out_faults plant.old ≤ P.out_faults plant.new }
     ensures disk { IsErrOf result PassFailed.Log → Rose (P.disk_faults plant.old) (P.disk_faults plant.new) }
@@ -207,6 +213,9 @@ fn commit_and_send<P: Plant>(
     match journal.append(plant, records) {
         Ok(()) => {}
         Err(Failed) => return Err(PassFailed::Log),
+    }
+    if packets.is_empty() {
+        return Ok(());
     }
     match plant.emit(packets) {
         Ok(()) => Ok(()),

@@ -10,6 +10,7 @@ ghost use Rattle.aftr_engine.specs.lease_log.Told.{told_by};
 ghost use Rattle.aftr_engine.specs.trace_query.Names.{name_of};
 ghost use Rattle.aftr_engine.specs.aftr_engine.Words.{command_for, paths_for, input_count};
 ghost use Rattle.aftr_engine.specs.aftr_engine.Causes.{at_first, IsCommand, IsRun, IsQuery, HasReason, IsFaultless, IsWhole, RefusesWords, RefusesConfig, RefusesLog, IsForConfig, IsForLog, IsForDamage, IsRefusal, EndsWith, IsAtRecordsEnd, Prints, PrintsFault, PrintsOf, IsReported, answer_text, text_of};
+ghost use Rattle.aftr_engine.specs.aftr_engine.Fronts.{HasCome};
 ghost use Rattle.aftr_engine.specs.aftr_engine.Reported.{IsReportOf};
 ghost use Rattle.aftr_engine.specs.aftr_engine.Report.{drop_counts};
 ghost use Rattle.aftr_engine.specs.aftr_engine.EndToEnd.{output_of, log_of, counts_of, summary_of};
@@ -220,6 +221,7 @@ fn run<C: Source, I: Source, P: Plant>(
     ensures log { I.tells → P.tells → IsAtRecordsEnd result.status → content (P.story plant.new) ≡ log_of (I.rest input.old) }
     ensures counts { I.tells → IsAtRecordsEnd result.status → RunTallies (I.rest input.old) result.tally }
     ensures answer { result.answer ≡ Answer.Summary }
+    ensures came { I.tells → P.tells → HasCome (I.rest input.old) (P.story plant.old) (P.story plant.new) result.tally.drops.0 result.status }
     ensures stops { I.tells → P.tells → StopsLeave (P.story plant.old) (P.story plant.new) (AccountsFor (I.rest input.old) (sent (P.story plant.old))) }
     ensures part { I.tells → P.tells → GainsPart (output_of (I.rest input.old)) (sent (P.story plant.old)) (sent (P.story plant.new)) }
     ensures reason { RunReason C.tells (C.rest cfg.old) P.tells (content (P.story plant.old)) (C.faults cfg.old) (C.faults cfg.new) (I.faults input.old) (I.faults input.new)

@@ -4,6 +4,7 @@ ghost use Rattle.plant_io.specs.Causes.{Rose};
 ghost use Rattle.plant_io.specs.Sink.{GainsPart};
 ghost use Rattle.plant_io.specs.Stops.{StopsLeave};
 ghost use Rattle.plant_io.specs.Story.{content, sent};
+ghost use Rattle.aftr_engine.specs.aftr_engine.Fronts.{HasCome};
 ghost use Rattle.aftr_engine.specs.aftr_engine.Stops.{AccountsFor};
 ghost use Rattle.aftr_base.specs.declared.outcome.Status.{Status};
 ghost use Rattle.aftr_engine.specs.link_records.Frames.{frames_of};
@@ -71,6 +72,7 @@ impl Session {
         ensures log { I.tells → P.tells → IsAtRecordsEnd result → content (P.story plant.new) ≡ log_of (I.rest input.old) }
         ensures stops { I.tells → P.tells → StopsLeave (P.story plant.old) (P.story plant.new) (AccountsFor (I.rest input.old) (sent (P.story plant.old))) }
         ensures counts { I.tells → IsAtRecordsEnd result → HasTallied (I.rest input.old) self.new }
+        ensures came { I.tells → P.tells → HasCome (I.rest input.old) (P.story plant.old) (P.story plant.new) (tally_of self.new).drops.0 result }
 
         ensures cause { StopsFor (I.faults input.old) (I.faults input.new) (P.disk_faults plant.old) (P.disk_faults plant.new)
             (P.out_faults plant.old) (P.out_faults plant.new) result }

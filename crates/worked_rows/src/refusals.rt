@@ -28,8 +28,8 @@ static RECORDS: [(&str, &str); 3] = [
     ),
 ];
 
-// What stands in the place of one layer of the first packet. The IPv4 header's checksum is right but where it is what is
-// wrong.
+// What stands in the place of one layer of the first packet. The IPv4 header's checksum is right but where it is what
+// is wrong.
 
 static TUNNELS: [(&str, &str); 6] = [
     (

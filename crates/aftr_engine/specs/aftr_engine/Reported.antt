@@ -13,6 +13,7 @@ use Rattle.aftr_engine.specs.lease_log.Told.{told_by}
 use Rattle.aftr_engine.specs.trace_query.Names.{name_of}
 use Rattle.aftr_engine.specs.aftr_engine.Report.{fault_line, trace_line, leases_text}
 use Rattle.aftr_engine.specs.aftr_engine.EndToEnd.{output_of, log_of, counts_of, summary_of}
+use Rattle.aftr_engine.specs.aftr_engine.Fronts.{HasCome}
 use Rattle.aftr_engine.specs.aftr_engine.Causes.{Counts, IsRun, IsQuery, HasReason, IsFaultless, IsWhole, RefusesConfig, RefusesLog, IsForConfig, IsForLog, IsForDamage, IsRefusal, EndsWith, IsAtRecordsEnd, IsReported}
 
 -- the counts of faults of all objects but the report, as of a call whose report didn't fail
@@ -31,6 +32,7 @@ pub record HasEnded (config_tells input_tells plant_tells : Type 0) (command : O
   pub packets : input_tells → plant_tells → IsRun command → IsAtRecordsEnd status → sent after ≡ sent before ++ output_of input
   pub leases : input_tells → plant_tells → IsRun command → IsAtRecordsEnd status → content after ≡ log_of input
   pub counts : input_tells → IsRun command → IsAtRecordsEnd status → drops ≡ counts_of input
+  pub front : input_tells → plant_tells → IsRun command → HasCome input before after drops status
   pub whole : config_tells → input_tells → plant_tells → IsRun command → config ≡ [] → content before ≡ [] → (frames_of input).stop ≡ AtEnd → IsFaultless c → IsWhole status
   pub for_input : input_tells → IsRun command → EndsWith (frames_of input).stop status
   -- of a query

@@ -146,16 +146,16 @@ fn apply_all(leases: &mut Vec<LeaseRow>, at: u64, piece: &[u8]) -> Result<Option
 }
 
 /// Applies a record to the leases that were told before it, and answers whether it is sound.
-fn apply(leases: &mut Vec<LeaseRow>, record: &[u8]) -> Result<bool, NoMemory>
-    requires { RECORD_LEN ≤ length record.now }
+fn apply(leases: &mut Vec<LeaseRow>, bytes: &[u8]) -> Result<bool, NoMemory>
+    requires { RECORD_LEN ≤ length bytes.now }
     ensures { IfOk result (λ sound. MatchBool sound
-        (after_record leases.old.items record.now ≡ Some leases.new.items) (after_record leases.old.items record.now ≡ None)) }
+        (after_record leases.old.items bytes.now ≡ Some leases.new.items) (after_record leases.old.items bytes.now ≡ None)) }
 {
-    let block = block_in(record);
+    let block = block_in(bytes);
     if LOG_MOMENT_LIMIT < block.since.0 {
         return Ok(false);
     }
-    match record[8] {
+    match bytes[8] {
         OPENS if may_open(leases, block) => {
             leases.push(block)?;
             Ok(true)
@@ -169,19 +169,19 @@ fn apply(leases: &mut Vec<LeaseRow>, record: &[u8]) -> Result<bool, NoMemory>
 }
 
 /// The block of a record, as a lease that is open from the record's moment on.
-fn block_in(record: &[u8]) -> LeaseRow
-    requires { RECORD_LEN ≤ length record.now }
-    ensures { result ≡ block_in record.now }
+fn block_in(bytes: &[u8]) -> LeaseRow
+    requires { RECORD_LEN ≤ length bytes.now }
+    ensures { result ≡ block_in bytes.now }
 {
     LeaseRow {
         owner: Subscriber(Prefix6 {
-            bits: Ip6(u128_in(record, 9)),
-            len: record[25],
+            bits: Ip6(u128_in(bytes, 9)),
+            len: bytes[25],
         }),
-        addr: Ip4(u32_in(record, 26)),
-        first: u16_in(record, 30),
-        last: u16_in(record, 32),
-        since: Moment(u64_in_front(record)),
+        addr: Ip4(u32_in(bytes, 26)),
+        first: u16_in(bytes, 30),
+        last: u16_in(bytes, 32),
+        since: Moment(u64_in_front(bytes)),
         until: None,
     }
 }

@@ -1,5 +1,5 @@
 use Rattle.aftr_engine.proofs.Sending.{sent_after, content_after, gained_all, gained_part}
-use Rattle.std.proofs.Common.{refl, sym, ◌∙◌, ap, length}
+use Rattle.std.proofs.Common.{◌++◌, refl, sym, ◌∙◌, ap, length, take}
 use Rattle.plant_io.specs.Story.{content}
 use Rattle.aftr_engine.proofs.StopSteps.{during_append, sent_all, sent_part, settled_sent}
 use Rattle.aftr_engine.proofs.egress_gate.commit_and_send.Goals as goal
@@ -32,3 +32,12 @@ returns-in-Err-emit-clause-stops g c = λ tells.
 
 pub returns-in-Ok-emit-clause-settled : goal.returns-in-Ok-emit-clause-settled
 returns-in-Ok-emit-clause-settled g c = λ tells. settled_sent (g.P.Plant.story c.append.new.plant) (g.P.Plant.story c.emit.new.self) c.args.packets.now (c.in-Ok.ensures.settled tells) (c.in-Ok-emit.ensures.all tells)
+
+pub returns-then-is_empty-clause-stops : goal.returns-then-is_empty-clause-stops
+returns-then-is_empty-clause-stops g c = λ tells. during_append _ _ _ _ (c.in-Ok.ensures.stops tells)
+
+pub returns-in-Err-emit-clause-logged : goal.returns-in-Err-emit-clause-logged
+returns-in-Err-emit-clause-logged g c = λ tells _.
+    let part = c.in-Err-emit.ensures.part tells in
+    content_after (g.P.Plant.story c.append.new.plant) (g.P.Plant.story c.emit.new.self) (take part.0 c.args.packets.now)
+    (content (g.P.Plant.story c.args.plant.now) ++ c.args.records.now) part.1 (c.in-Ok.ensures.log tells)

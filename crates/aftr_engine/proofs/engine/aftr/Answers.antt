@@ -59,7 +59,7 @@ returns-clause-reported g c = elim c.match-command_of.branch [
         done =
             ended_run g.C.Source.tells g.I.Source.tells g.P.Plant.tells (command_for c.args.words.now) (g.C.Source.rest c.args.cfg.now) input
             (g.P.Plant.story c.args.plant.now) (g.P.Plant.story w.run-ended.new.plant) _ ended.tally.drops.0 ended.status is
-            done.sent done.log (λ reads end. (done.counts reads end).drops) done.reason done.input done.refused;
+            done.sent done.log (λ reads end. (done.counts reads end).drops) done.came done.reason done.input done.refused;
         prints = λ told. (
           text_of ended.tally ended.answer ended.status,
           text_of_run g.I.Source.tells g.P.Plant.tells (command_for c.args.words.now) input file ended.tally ended.answer ended.status is done.answer done.counts,

@@ -1,6 +1,7 @@
 use Rattle.std.proofs.Common.{ℕ, List, ◌++◌, refl, ap, arith}
 use Rattle.plant_io.specs.Story.{content, sent}
 use Rattle.aftr_engine.proofs.RunSteps.{begun, onward, are_few, way_sent, way_within}
+use Rattle.aftr_engine.proofs.FrontSteps.{way_treated, way_unlogged, way_sending}
 use Rattle.aftr_engine.proofs.StopSteps.{accounted_start, empty_settled, way_stops}
 use Rattle.aftr_engine.proofs.session.Session.run.Goals as goal
 
@@ -71,3 +72,27 @@ loop-event-init g c = record {
   disk_later = omega arith;
   outlet_later = omega arith;
 }
+
+pub returns-in-Failed-clause-came : goal.returns-in-Failed-clause-came
+returns-in-Failed-clause-came g c = λ reads tells.
+    way_treated _ _ (g.P.Plant.story c.args.plant.now) (g.P.Plant.story c.loop-event.plant) _ _ _ _ _ _ c.loop-event.invariant.way reads tells (c.requires.empty tells)
+
+pub returns-in-NoMemory-clause-came : goal.returns-in-NoMemory-clause-came
+returns-in-NoMemory-clause-came g c = λ reads tells.
+    way_treated _ _ (g.P.Plant.story c.args.plant.now) (g.P.Plant.story c.loop-event.plant) _ _ _ _ _ _ c.loop-event.invariant.way reads tells (c.requires.empty tells)
+
+pub returns-in-Err-NoMemory-clause-came : goal.returns-in-Err-NoMemory-clause-came
+returns-in-Err-NoMemory-clause-came g c = λ reads tells.
+    rw (c.in-Err-NoMemory.ensures.memory (cc c.in-Err-NoMemory.field-0-is), c.in-Err-NoMemory.ensures.uncounted)
+    (way_treated _ _ (g.P.Plant.story c.args.plant.now) (g.P.Plant.story c.loop-event.plant) _ _ _ _ _ _ c.loop-event.invariant.way reads tells (c.requires.empty tells))
+
+pub returns-in-Err-Log-clause-came : goal.returns-in-Err-Log-clause-came
+returns-in-Err-Log-clause-came g c = λ reads tells.
+    rw c.in-Err-Log.ensures.uncounted
+    (way_unlogged _ _ (g.P.Plant.story c.args.plant.now) (g.P.Plant.story c.loop-event.plant) (g.P.Plant.story c.pass.new.plant) _ _ _ _ _ _ c.loop-event.invariant.way reads tells
+    (c.in-Err-Log.ensures.unsent tells (cc c.in-Err-Log.field-0-is)))
+
+pub returns-in-Err-Outlet-clause-came : goal.returns-in-Err-Outlet-clause-came
+returns-in-Err-Outlet-clause-came g c = λ reads tells.
+    way_sending _ _ (g.P.Plant.story c.args.plant.now) (g.P.Plant.story c.loop-event.plant) (g.P.Plant.story c.pass.new.plant) _ _ _ _ _ _ _ _ c.in-Got.event c.loop-event.invariant.way reads tells (c.requires.empty tells)
+    (c.in-Got.ensures.reads reads) (c.in-Err-Outlet.ensures.part tells) (c.in-Err-Outlet.ensures.logged tells (cc c.in-Err-Outlet.field-0-is))
