@@ -13,6 +13,7 @@ pub mod Peers
 pub mod ReadyDatagrams
 pub mod Reasons
 pub mod Records
+pub mod RecordsRead
 pub mod RunSteps
 pub mod Runs
 pub mod Searches

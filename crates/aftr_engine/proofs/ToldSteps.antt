@@ -30,7 +30,7 @@ enough (suc n) (suc m) at leases (b ∷ bytes) h k =
     same_next at (after_record leases (b ∷ bytes)) _ _ (λ next. enough n m (at + 34) next (drop 34 (b ∷ bytes)) (omega (arith, length-drop 33 bytes)) (omega (arith, length-drop 33 bytes)))
 
 -- a record that is sound leads on, and another ends all
-goes_on : (at : ℕ) (leases next : List LeaseRow) (bytes : List ℕ) → 0 < length bytes → after_record leases bytes ≡ Some next → told_from at leases bytes ≡ told_from (at + 34) next (drop 34 bytes)
+pub goes_on : (at : ℕ) (leases next : List LeaseRow) (bytes : List ℕ) → 0 < length bytes → after_record leases bytes ≡ Some next → told_from at leases bytes ≡ told_from (at + 34) next (drop 34 bytes)
 unfolding next_or
 goes_on at leases next [] some e = absurd (omega (arith, some))
 goes_on at leases next (b ∷ bytes) some e =
@@ -49,10 +49,10 @@ range_front xs ys i j le fits =
     ap (take (j - i)) (drop-append-le i xs ys (omega arith))
     ∙ take-append-le (j - i) (drop i xs) ys (omega (arith, length-drop i xs))
 
-abbrev block_of : ℕ → ℕ → ℕ → ℕ → ℕ → ℕ → LeaseRow
+abbrev pub block_of : ℕ → ℕ → ℕ → ℕ → ℕ → ℕ → LeaseRow
 block_of bits len addr first last since = record { owner = record { 0 = prefix6 bits len }; addr = ip4 addr; first = first; last = last; since = moment since; until = None }
 
-same_block : (bits bits' len len' addr addr' first first' last last' since since' : ℕ) → bits ≡ bits' → len ≡ len' → addr ≡ addr' → first ≡ first' → last ≡ last' → since ≡ since'
+pub same_block : (bits bits' len len' addr addr' first first' last last' since since' : ℕ) → bits ≡ bits' → len ≡ len' → addr ≡ addr' → first ≡ first' → last ≡ last' → since ≡ since'
     → block_of bits len addr first last since ≡ block_of bits' len' addr' first' last' since'
 same_block bits bits' len len' addr addr' first first' last last' since since' a b c d e f = cc
 
@@ -69,7 +69,7 @@ block_front r s long =
 same_of_four : {A B C D R : Type 0} (f : A → B → C → D → R) (a a' : A) (b b' : B) (c c' : C) (d d' : D) → a ≡ a' → b ≡ b' → c ≡ c' → d ≡ d' → f a b c d ≡ f a' b' c' d'
 same_of_four f a a' b b' c c' d d' p q r s = cc
 
-record_front : (leases : List LeaseRow) (bytes rest : List ℕ) → 34 ≤ length bytes → after_record leases (bytes ++ rest) ≡ after_record leases bytes
+pub record_front : (leases : List LeaseRow) (bytes rest : List ℕ) → 34 ≤ length bytes → after_record leases (bytes ++ rest) ≡ after_record leases bytes
 record_front leases r s long =
     same_of_four (λ (whole : Bool) (at event : ℕ) (b : LeaseRow). if whole && nat_le at log_moment_limit then after_event event leases b else None) _ _ _ _ _ _ _ _
     (le-leb 34 (length (r ++ s)) (omega (arith, length-append r s)) ∙ sym (le-leb 34 (length r) long))

@@ -1,0 +1,50 @@
+-- The fields of a log's record, read from its bytes.
+use Rattle.std.proofs.Common.{◌≡◌, ℕ, suc, ◌+◌, ◌*◌, ◌/◌, ◌%◌, ◌^◌, ◌<◌, ◌≤◌, Bool, true, false, List, [], ◌∷◌, ◌++◌, length, Some, None, Option, refl, sym, ap, ◌∙◌, arith}
+use Rattle.std.specs.Prelude.{nat_le, ◌&&◌, if◌then◌else◌}
+use Rattle.std.specs.Int.{w128, from_be_bytes, to_be_bytes}
+use native.Mathlib.Nat.{div-div-eq-div-mul}
+use Rattle.std.proofs.lemmas.Bool.{le-leb}
+use Rattle.std.proofs.lemmas.Nat.{from_be_bytes-to_be_bytes_2, from_be_bytes-to_be_bytes_4, from_be_bytes-to_be_bytes_8}
+use Rattle.aftr_base.specs.Value.{moment}
+use Rattle.aftr_base.specs.Bytes.{u8_at, u64_at, be16, be32, be64, be128}
+use Rattle.aftr_base.specs.declared.row.LeaseRow.{LeaseRow}
+use Rattle.aftr_base.specs.declared.value.Moment.{Moment}
+use Rattle.aftr_engine.specs.nat_events.Spelling.{block_record, event_number}
+use Rattle.aftr_engine.specs.lease_log.Told.{after_event, after_record, block_in, log_moment_limit}
+use Rattle.aftr_engine.proofs.ToldSteps.{block_of, same_block}
+
+-- ---- numbers of 16 bytes
+
+byte_and_rest : (n p : ℕ) → n / p ≡ n / p % 256 + n / (p * 256) * 256
+byte_and_rest n p = omega (arith, div-div-eq-div-mul n p 256)
+
+joined : (a₀ a₁ a₂ a₃ a₄ a₅ a₆ a₇ n p₁ p₂ p₃ p₄ p₅ p₆ p₇ p₈ : ℕ)
+    → n ≡ a₀ + p₁ * 256 → p₁ ≡ a₁ + p₂ * 256 → p₂ ≡ a₂ + p₃ * 256 → p₃ ≡ a₃ + p₄ * 256 → p₄ ≡ a₄ + p₅ * 256 → p₅ ≡ a₅ + p₆ * 256 → p₆ ≡ a₆ + p₇ * 256 → p₇ ≡ a₇ + p₈ * 256
+    → a₀ + a₁ * 256 + a₂ * 256 ^ 2 + a₃ * 256 ^ 3 + a₄ * 256 ^ 4 + a₅ * 256 ^ 5 + a₆ * 256 ^ 6 + a₇ * 256 ^ 7 + p₈ * 256 ^ 8 ≡ n
+joined a₀ a₁ a₂ a₃ a₄ a₅ a₆ a₇ n p₁ p₂ p₃ p₄ p₅ p₆ p₇ p₈ e₀ e₁ e₂ e₃ e₄ e₅ e₆ e₇ = omega arith
+
+-- the lower eight bytes, and what stands above them
+lower : (n : ℕ) → n % 256 + n / 256 % 256 * 256 + n / 256 ^ 2 % 256 * 256 ^ 2 + n / 256 ^ 3 % 256 * 256 ^ 3 + n / 256 ^ 4 % 256 * 256 ^ 4 + n / 256 ^ 5 % 256 * 256 ^ 5
+    + n / 256 ^ 6 % 256 * 256 ^ 6 + n / 256 ^ 7 % 256 * 256 ^ 7 + n / 256 ^ 8 * 256 ^ 8 ≡ n
+lower n =
+    let low : n ≡ n % 256 + n / 256 * 256 = omega arith in
+    joined _ _ _ _ _ _ _ _ n _ _ _ _ _ _ _ _ low (byte_and_rest n 256) (byte_and_rest n (256 ^ 2)) (byte_and_rest n (256 ^ 3)) (byte_and_rest n (256 ^ 4))
+    (byte_and_rest n (256 ^ 5)) (byte_and_rest n (256 ^ 6)) (byte_and_rest n (256 ^ 7))
+
+-- and the upper eight
+upper : (n : ℕ) → n < 2 ^ 128 → n / 256 ^ 8 % 256 + n / 256 ^ 9 % 256 * 256 + n / 256 ^ 10 % 256 * 256 ^ 2 + n / 256 ^ 11 % 256 * 256 ^ 3 + n / 256 ^ 12 % 256 * 256 ^ 4
+    + n / 256 ^ 13 % 256 * 256 ^ 5 + n / 256 ^ 14 % 256 * 256 ^ 6 + n / 256 ^ 15 % 256 * 256 ^ 7 + 0 * 256 ^ 8 ≡ n / 256 ^ 8
+upper n fits =
+    let high : n / 256 ^ 15 ≡ n / 256 ^ 15 % 256 + 0 * 256 = omega arith in
+    joined _ _ _ _ _ _ _ _ (n / 256 ^ 8) _ _ _ _ _ _ _ 0 (byte_and_rest n (256 ^ 8)) (byte_and_rest n (256 ^ 9)) (byte_and_rest n (256 ^ 10)) (byte_and_rest n (256 ^ 11))
+    (byte_and_rest n (256 ^ 12)) (byte_and_rest n (256 ^ 13)) (byte_and_rest n (256 ^ 14)) high
+
+turned : (a₀ a₁ a₂ a₃ a₄ a₅ a₆ a₇ b₀ b₁ b₂ b₃ b₄ b₅ b₆ b₇ h n : ℕ)
+    → a₀ + a₁ * 256 + a₂ * 256 ^ 2 + a₃ * 256 ^ 3 + a₄ * 256 ^ 4 + a₅ * 256 ^ 5 + a₆ * 256 ^ 6 + a₇ * 256 ^ 7 + h * 256 ^ 8 ≡ n
+    → b₀ + b₁ * 256 + b₂ * 256 ^ 2 + b₃ * 256 ^ 3 + b₄ * 256 ^ 4 + b₅ * 256 ^ 5 + b₆ * 256 ^ 6 + b₇ * 256 ^ 7 + 0 * 256 ^ 8 ≡ h
+    → b₇ * 256 ^ 15 + b₆ * 256 ^ 14 + b₅ * 256 ^ 13 + b₄ * 256 ^ 12 + b₃ * 256 ^ 11 + b₂ * 256 ^ 10 + b₁ * 256 ^ 9 + b₀ * 256 ^ 8
+    + a₇ * 256 ^ 7 + a₆ * 256 ^ 6 + a₅ * 256 ^ 5 + a₄ * 256 ^ 4 + a₃ * 256 ^ 3 + a₂ * 256 ^ 2 + a₁ * 256 + a₀ ≡ n
+turned a₀ a₁ a₂ a₃ a₄ a₅ a₆ a₇ b₀ b₁ b₂ b₃ b₄ b₅ b₆ b₇ h n low high = omega arith
+
+pub be128_back : (n : ℕ) → n < 2 ^ 128 → from_be_bytes w128 (to_be_bytes w128 n) ≡ n
+be128_back n fits = turned _ _ _ _ _ _ _ _ _ _ _ _ _ _ _ _ (n / 256 ^ 8) n (lower n) (upper n fits)
