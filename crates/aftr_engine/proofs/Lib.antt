@@ -7,7 +7,9 @@ pub mod Endings
 pub mod Forwarding
 pub mod FrameSteps
 pub mod FrontSteps
+pub mod LeasesApart
 pub mod Lines
+pub mod LogReads
 pub mod Numbers
 pub mod Peers
 pub mod ReadyDatagrams

@@ -11,7 +11,8 @@ use Rattle.aftr_base.specs.declared.row.LeaseRow.{LeaseRow}
 use Rattle.aftr_base.specs.declared.value.Moment.{Moment}
 use Rattle.aftr_engine.specs.nat_events.Spelling.{block_record, event_number}
 use Rattle.aftr_engine.specs.lease_log.Told.{after_event, after_record, block_in, log_moment_limit}
-use Rattle.aftr_engine.proofs.ToldSteps.{block_of, same_block}
+use Rattle.aftr_engine.proofs.Records.{length_record}
+use Rattle.aftr_engine.proofs.ToldSteps.{block_of, same_block, same_of_four}
 
 -- ---- numbers of 16 bytes
 
@@ -48,3 +49,52 @@ turned a₀ a₁ a₂ a₃ a₄ a₅ a₆ a₇ b₀ b₁ b₂ b₃ b₄ b₅ b�
 
 pub be128_back : (n : ℕ) → n < 2 ^ 128 → from_be_bytes w128 (to_be_bytes w128 n) ≡ n
 be128_back n fits = turned _ _ _ _ _ _ _ _ _ _ _ _ _ _ _ _ (n / 256 ^ 8) n (lower n) (upper n fits)
+
+-- ---- one record
+
+-- the numbers that fill the fields of a block
+pub record Fills (l : LeaseRow) : Type 0 where
+  pub owner : l.owner.0.bits.0 < 2 ^ 128
+  pub addr : l.addr.0 < 2 ^ 32
+  pub first : l.first < 2 ^ 16
+  pub last : l.last < 2 ^ 16
+
+-- the block of a lease, from this moment on
+abbrev pub block_at : Moment → LeaseRow → LeaseRow
+block_at at l = block_of l.owner.0.bits.0 l.owner.0.len l.addr.0 l.first l.last at.0
+
+pub block_back : (opens : Bool) (at : Moment) (l : LeaseRow) → Fills l → at.0 < 2 ^ 64 → block_in (block_record opens at l) ≡ block_at at l
+unfolding be16 be32 be64 be128
+block_back opens at l fills early =
+    same_block _ _ _ _ _ _ _ _ _ _ _ _
+    (be128_back l.owner.0.bits.0 fills.owner)
+    refl
+    (from_be_bytes-to_be_bytes_4 l.addr.0 fills.addr)
+    (from_be_bytes-to_be_bytes_2 l.first fills.first)
+    (from_be_bytes-to_be_bytes_2 l.last fills.last)
+    (from_be_bytes-to_be_bytes_8 at.0 early)
+
+pub event_back : (opens : Bool) (at : Moment) (l : LeaseRow) → u8_at 8 (block_record opens at l) ≡ event_number opens
+unfolding be16 be32 be64 be128
+event_back opens at l = refl
+
+pub moment_back : (opens : Bool) (at : Moment) (l : LeaseRow) → at.0 < 2 ^ 64 → u64_at 0 (block_record opens at l) ≡ at.0
+unfolding be16 be32 be64 be128
+moment_back opens at l early = from_be_bytes-to_be_bytes_8 at.0 early
+
+-- the block of a lease that is open from this moment on is the lease
+pub open_block : (l : LeaseRow) → l.until ≡ None → block_at l.since l ≡ l
+open_block l unended = ap (λ (until : Option Moment). record l { until = until }) (sym unended)
+
+-- what a record of the log tells: its event, at its moment
+pub record_told : (opens : Bool) (at : Moment) (l : LeaseRow) (leases : List LeaseRow) → Fills l → at.0 ≤ log_moment_limit
+    → after_record leases (block_record opens at l) ≡ after_event (event_number opens) leases (block_at at l)
+record_told opens at l leases fills early =
+    let bytes : List ℕ = block_record opens at l in
+    let size = length_record opens at l in
+    same_of_four (λ (whole : Bool) (moment event : ℕ) (b : LeaseRow). if whole && nat_le moment log_moment_limit then after_event event leases b else None) _ _ _ _ _ _ _ _
+    (le-leb 34 (length bytes) (omega (arith, size)))
+    (moment_back opens at l (omega (arith, early)))
+    (event_back opens at l)
+    (block_back opens at l fills (omega (arith, early)))
+    ∙ ap (λ (in_time : Bool). if true && in_time then after_event (event_number opens) leases (block_at at l) else None) (le-leb at.0 log_moment_limit early)

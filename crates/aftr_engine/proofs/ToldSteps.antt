@@ -66,7 +66,7 @@ block_front r s long =
     (ap (from_be_bytes w16) (range_front r s 32 34 (omega arith) (omega arith)))
     (ap (from_be_bytes w64) (range_front r s 0 8 (omega arith) (omega arith)))
 
-same_of_four : {A B C D R : Type 0} (f : A → B → C → D → R) (a a' : A) (b b' : B) (c c' : C) (d d' : D) → a ≡ a' → b ≡ b' → c ≡ c' → d ≡ d' → f a b c d ≡ f a' b' c' d'
+pub same_of_four : {A B C D R : Type 0} (f : A → B → C → D → R) (a a' : A) (b b' : B) (c c' : C) (d d' : D) → a ≡ a' → b ≡ b' → c ≡ c' → d ≡ d' → f a b c d ≡ f a' b' c' d'
 same_of_four f a a' b b' c c' d d' p q r s = cc
 
 pub record_front : (leases : List LeaseRow) (bytes rest : List ℕ) → 34 ≤ length bytes → after_record leases (bytes ++ rest) ≡ after_record leases bytes
