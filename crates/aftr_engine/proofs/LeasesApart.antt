@@ -112,3 +112,66 @@ closes_front now l ls before after unended begun others closes =
       subst (λ (xs : List LeaseRow). Closes now xs ls (ended now l ∷ after)) (sym left)
       (closes_behind now (ended now l) ls before after (λ (k : ℕ) (d : LeaseRow) (inside : k < length ls). refl) closes),
     )
+
+open_if_idle : (unended free : Bool) → (unended && free) ≡ true → unended ≡ true
+open_if_idle true free is = refl
+open_if_idle false free is = is
+
+-- the idle leases are open, so none has an earlier lease's block
+idle_differ : (n : ℕ) (rows : List Row) (l : LeaseRow) (ls : List LeaseRow) → All (Differ l) ls → All (λ x. is_lease_of x l ≡ false) (take n (filter (is_idle rows) ls))
+idle_differ n rows l ls differs =
+    let idle : All (λ x. is_idle rows x ≡ true) (filter (is_idle rows) ls) = filter_passes (is_idle rows) ls in
+    let kept : All (Differ l) (filter (is_idle rows) ls) = All-filter (is_idle rows) (Differ l) ls differs in
+    All-take (λ x. is_lease_of x l ≡ false) n (filter (is_idle rows) ls)
+    (λ (k : ℕ) (d : LeaseRow) (inside : k < length (filter (is_idle rows) ls)).
+    let x : LeaseRow = get_or (filter (is_idle rows) ls) k d in
+    (kept k d inside).1 (open_if_idle (is_open x) (not (in_use x.addr x.first x.last rows)) (idle k d inside)))
+
+-- the front lease by whether it is idle
+closes_by : (idle : Bool) (n now : ℕ) (rows : List Row) (l : LeaseRow) (ls : List LeaseRow) → (idle ≡ true → is_open l ≡ true) → nat_le l.since.0 now ≡ true → All (Differ l) ls
+    → ((m : ℕ) → Closes now ls (take m (filter (is_idle rows) ls)) (with_idle_ended m now rows ls))
+    → Closes now (l ∷ ls) (take (suc n) (cond idle (l ∷ filter (is_idle rows) ls) (filter (is_idle rows) ls)))
+    ((if idle then ended now l else l) ∷ with_idle_ended (if idle then n else suc n) now rows ls)
+closes_by true n now rows l ls unended begun differs others =
+    closes_front now l (take n (filter (is_idle rows) ls)) ls (with_idle_ended n now rows ls) (unended refl) begun
+    (λ (k : ℕ) (d : LeaseRow) (inside : k < length ls). (differs k d inside).0 (unended refl)) (others n)
+closes_by false n now rows l ls unended begun differs others =
+    closes_behind now l (take (suc n) (filter (is_idle rows) ls)) ls (with_idle_ended (suc n) now rows ls) (idle_differ (suc n) rows l ls differs) (others (suc n))
+
+-- the first n idle leases close, each by its own block
+pub closes_idle : (n now : ℕ) (rows : List Row) (ls : List LeaseRow) → Separate ls → All (λ l. nat_le l.since.0 now ≡ true) ls
+    → Closes now ls (take n (filter (is_idle rows) ls)) (with_idle_ended n now rows ls)
+closes_idle zero now rows ls differ begun = refl
+closes_idle (suc n) now rows [] differ begun = refl
+closes_idle (suc n) now rows (l ∷ ls) differ begun =
+    closes_by (is_idle rows l) n now rows l ls (open_if_idle (is_open l) (not (in_use l.addr l.first l.last rows)))
+    (All-head (λ x. nat_le x.since.0 now ≡ true) l ls begun) differ.0
+    (λ (m : ℕ). closes_idle m now rows ls differ.1 (All-tail (λ x. nat_le x.since.0 now ≡ true) l ls begun))
+
+-- ---- opening a lease
+
+beside_by : (unended over rest : Bool) → (unended ≡ true → over ≡ false) → rest ≡ true → (not (unended && over) && rest) ≡ true
+beside_by true true rest free others = absurd (true≢false (free refl))
+beside_by true false rest free others = others
+beside_by false over rest free others = others
+
+-- the last of leases that are apart overlaps none that is open
+overlaps_none : (ls : List LeaseRow) (l : LeaseRow) → AllPairs (λ x y. clash x y ≡ false) (ls ++ l ∷ [])
+    → list_all (λ (x : LeaseRow). not (is_open x && overlaps x l.addr l.first l.last)) ls ≡ true
+overlaps_none [] l free = refl
+overlaps_none (x ∷ ls) l free =
+    let last : get_or (ls ++ l ∷ []) (length ls) l ≡ l = get_or_push ls l l (length ls) refl in
+    let both : clash x l ≡ false = subst (λ (y : LeaseRow). clash x y ≡ false) last (free 0 (suc (length ls)) l (omega arith) (omega (arith, length-append ls (l ∷ [])))) in
+    beside_by (is_open x) (overlaps x l.addr l.first l.last) (list_all (λ (y : LeaseRow). not (is_open y && overlaps y l.addr l.first l.last)) ls)
+    (apart x l both)
+    (overlaps_none ls l (λ (i j : ℕ) (d : LeaseRow) (before : i < j) (inside : j < length (ls ++ l ∷ [])). free (suc i) (suc j) d (omega arith) (omega arith)))
+
+opens_by : (prefix ranges begun rest others : Bool) → (prefix && ranges && begun && rest) ≡ true → others ≡ true → (prefix && ranges && others) ≡ true
+opens_by true true begun rest others is beside = beside
+opens_by true false begun rest others is beside = is
+opens_by false ranges begun rest others is beside = is
+
+-- so it could open
+pub opens_last : (clock : ℕ) (ls : List LeaseRow) (l : LeaseRow) → is_lease_by clock l ≡ true → AllPairs (λ x y. clash x y ≡ false) (ls ++ l ∷ []) → may_open ls l ≡ true
+opens_last clock ls l is free =
+    opens_by (is_prefix6 l.owner.0) (nat_le l.first l.last) (nat_le l.since.0 clock) _ (list_all (λ (x : LeaseRow). not (is_open x && overlaps x l.addr l.first l.last)) ls) is (overlaps_none ls l free)
