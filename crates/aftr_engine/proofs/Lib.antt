@@ -11,6 +11,7 @@ pub mod LeasesApart
 pub mod Lines
 pub mod LogReads
 pub mod Numbers
+pub mod Openings
 pub mod Peers
 pub mod ReadyDatagrams
 pub mod Reasons
