@@ -13,6 +13,7 @@ pub mod LogReads
 pub mod Numbers
 pub mod Openings
 pub mod Peers
+pub mod ReadBack
 pub mod ReadyDatagrams
 pub mod Reasons
 pub mod Records
