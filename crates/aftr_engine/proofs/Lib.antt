@@ -5,6 +5,7 @@ pub mod Closings
 pub mod Counts
 pub mod Endings
 pub mod Forwarding
+pub mod FrameMoments
 pub mod FrameSteps
 pub mod FrontSteps
 pub mod LeasesApart

@@ -12,7 +12,10 @@ use Rattle.aftr_base.specs.declared.row.LeaseRow.{LeaseRow}
 use Rattle.aftr_engine.specs.declared.cfg_text.Config.{Config}
 use Rattle.aftr_engine.specs.declared.nat_mapping.Row.{Row}
 use Rattle.aftr_engine.specs.cfg_text.Defaults.{defaults}
+use Rattle.aftr_engine.specs.aftr_engine.EndToEnd.{log_of, run_of}
+use Rattle.aftr_engine.specs.aftr_engine.Fronts.{front_run}
 use Rattle.aftr_engine.specs.lease_log.Told.{log_moment_limit, told_by}
+use Rattle.aftr_engine.specs.link_records.Frames.{frames_of}
 use Rattle.aftr_engine.specs.nat_events.Spelling.{closing_record, opening_record}
 use Rattle.aftr_engine.specs.nat_mapping.Rows.{expired}
 use Rattle.aftr_engine.specs.xlate_core.Expiry.{at_moment, closing_limit, is_idle, leases_ended, with_idle_ended}
@@ -20,6 +23,7 @@ use Rattle.aftr_engine.specs.xlate_core.Run.{first_run, logged_by, run, start}
 use Rattle.aftr_engine.specs.xlate_core.State.{State, Step}
 use Rattle.aftr_engine.specs.xlate_core.Step.{step, treatment}
 use Rattle.aftr_engine.specs.xlate_core.Valid.{IsValid, clash, is_lease_by}
+use Rattle.aftr_engine.proofs.FrameMoments.{frames_in_time}
 use Rattle.aftr_engine.proofs.LeasesApart.{closes_idle, opens_last, separate}
 use Rattle.aftr_engine.proofs.LogReads.{Reads, reads_both, reads_closings, reads_none, reads_opening, told_reads}
 use Rattle.aftr_engine.proofs.Openings.{Fits, IsNew, Opens, opens_kind}
@@ -93,3 +97,86 @@ moved_by false at s valid fit early in_time is =
 
 moved : (at : ℕ) (s : State) → IsValid s → All Fits s.leases → s.clock ≤ log_moment_limit → at ≤ log_moment_limit → Moved s (at_moment at s).state (at_moment at s).closings
 moved at s valid fit early in_time = moved_by (nat_le at s.clock) at s valid fit early in_time refl
+
+-- ---- a lease opens
+
+reads_new : (clock : ℕ) (leases : List LeaseRow) (o : Option LeaseRow) → clock ≤ log_moment_limit → IfSome o (IsNew clock)
+    → All (λ l. is_lease_by clock l ≡ true) (leases ++ option_to_list o) → AllPairs (λ l x. clash l x ≡ false) (leases ++ option_to_list o)
+    → Reads leases (flat_map opening_record (option_to_list o)) (leases ++ option_to_list o)
+reads_new clock leases None early new valid free = subst (λ (now : List LeaseRow). Reads leases [] now) (sym (append-nil leases)) (reads_none leases)
+reads_new clock leases (Some l) early new valid free =
+    let last : get_or (leases ++ l ∷ []) (length leases) l ≡ l = get_or_push leases l l (length leases) refl in
+    let is : is_lease_by clock l ≡ true = subst (λ (x : LeaseRow). is_lease_by clock x ≡ true) last (valid (length leases) l (omega (arith, length-append leases (l ∷ [])))) in
+    let at : l.since.0 ≡ clock = ap (λ m. m.0) new.since in
+    subst (λ (bytes : List ℕ). Reads leases bytes (leases ++ l ∷ [])) (sym (append-nil (opening_record l)))
+    (reads_opening leases l (fills clock l is new.fits) new.until (omega (arith, at, early)) (opens_last clock leases l is free))
+
+fit_new : (clock : ℕ) (leases : List LeaseRow) (o : Option LeaseRow) → IfSome o (IsNew clock) → All Fits leases → All Fits (leases ++ option_to_list o)
+fit_new clock leases None new fit = subst (All Fits) (sym (append-nil leases)) fit
+fit_new clock leases (Some l) new fit = All-push Fits leases l fit new.fits
+
+-- ---- a step
+
+-- What a step logs leads from the leases before it to those after it; the other facts serve the next step.
+pub record IsTold (s : State) (t : Step) : Type 0 where
+  pub config : t.state.config ≡ s.config
+  pub early : t.state.clock ≤ log_moment_limit
+  pub reads : Reads s.leases (logged_by t) t.state.leases
+  pub fit : All Fits t.state.leases
+
+-- the openings of a treatment, by what is known of it
+reads_openings : (s : State) (t : Step) → Opens s t → IsValid t.state → s.clock ≤ log_moment_limit → Reads s.leases (flat_map opening_record t.openings) t.state.leases
+reads_openings s t own valid early =
+    let o = own.lease in
+    let lawful = subst (λ (clock : ℕ). All (λ l. is_lease_by clock l ≡ true) t.state.leases) own.clock valid.leases in
+    rw (own.openings, own.leases)
+    (reads_new s.clock s.leases o early own.new
+    (subst (All (λ l. is_lease_by s.clock l ≡ true)) own.leases lawful)
+    (subst (AllPairs (λ l x. clash l x ≡ false)) own.leases valid.disjoint))
+
+pub told_step : (s : State) (e : Event) → s.config ≡ defaults → IsValid s → IsValid (step s e).state → All Fits s.leases → s.clock ≤ log_moment_limit → e.at.0 ≤ log_moment_limit
+    → IsTold s (step s e)
+told_step s e is valid after fit early in_time =
+    let before = at_moment e.at.0 s in
+    let t = treatment before.state e.kind e.bytes in
+    let up = moved e.at.0 s valid fit early in_time in
+    let own = opens_kind before.state e.bytes e.kind (up.config ∙ is) in
+    let closed : before.closings ++ t.closings ≡ before.closings = ap (λ (ls : List LeaseRow). before.closings ++ ls) own.closings ∙ append-nil before.closings in
+    record {
+      config = own.config ∙ up.config;
+      early = omega (arith, own.clock, up.early);
+      reads =
+          reads_both s.leases before.state.leases t.state.leases (flat_map closing_record (before.closings ++ t.closings)) (flat_map opening_record t.openings)
+          (subst (λ (ls : List LeaseRow). Reads s.leases (flat_map closing_record ls) before.state.leases) (sym closed) up.reads)
+          (reads_openings before.state t own after up.early);
+      fit = subst (All Fits) (sym own.leases) (fit_new before.state.clock before.state.leases own.lease own.new up.fit);
+    }
+
+-- ---- a run
+
+told_run : ((s : State) (e : Event) → s.config ≡ defaults → IsValid s → IsValid (step s e).state) → (s : State) (events : List Event) → s.config ≡ defaults → IsValid s → All Fits s.leases
+    → s.clock ≤ log_moment_limit → All (λ e. e.at.0 ≤ log_moment_limit) events → Reads s.leases (run s events).log (run s events).state.leases
+told_run valid s [] is sound fit early in_time = reads_none s.leases
+told_run valid s (e ∷ es) is sound fit early in_time =
+    let t = step s e in
+    let after = valid s e is sound in
+    let told = told_step s e is sound after fit early (All-head (λ x. x.at.0 ≤ log_moment_limit) e es in_time) in
+    reads_both s.leases t.state.leases (run t.state es).state.leases (logged_by t) (run t.state es).log told.reads
+    (told_run valid t.state es (told.config ∙ is) after told.fit told.early (All-tail (λ x. x.at.0 ≤ log_moment_limit) e es in_time))
+
+pub told_of_run : ((s : State) (e : Event) → s.config ≡ defaults → IsValid s → IsValid (step s e).state) → IsValid (start defaults) → (events : List Event)
+    → All (λ e. e.at.0 ≤ log_moment_limit) events → told_by (first_run events).log ≡ Ok (first_run events).state.leases
+told_of_run valid begins events in_time =
+    told_reads (first_run events).log (first_run events).state.leases
+    (told_run valid (start defaults) events refl begins (All-nil Fits) (omega arith) in_time)
+
+-- ---- the records of an input
+
+pub front_told : ((s : State) (e : Event) → s.config ≡ defaults → IsValid s → IsValid (step s e).state) → IsValid (start defaults) → (n : ℕ) (input : List ℕ)
+    → told_by (front_run n input).log ≡ Ok (front_run n input).state.leases
+front_told valid begins n input =
+    told_of_run valid begins (take n (frames_of input).events) (All-take (λ e. e.at.0 ≤ log_moment_limit) n (frames_of input).events (frames_in_time input))
+
+pub whole_told : ((s : State) (e : Event) → s.config ≡ defaults → IsValid s → IsValid (step s e).state) → IsValid (start defaults) → (input : List ℕ)
+    → told_by (log_of input) ≡ Ok (run_of input).state.leases
+whole_told valid begins input = told_of_run valid begins (frames_of input).events (frames_in_time input)
