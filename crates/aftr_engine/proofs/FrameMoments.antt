@@ -1,6 +1,6 @@
 -- The moments of an input's records.
-use Rattle.std.proofs.Common.{◌≡◌, ℕ, zero, suc, ◌+◌, ◌≤◌, ◌==◌, Bool, true, false, cond, ◌&&◌, nat_le, List, [], length, drop, All, Option, Some, None, IfSome, option_map, refl, arith, leb-true}
-use Rattle.std.proofs.lemmas.Bool.{and_parts, true≢false}
+use Rattle.std.proofs.Common.{◌≡◌, ℕ, zero, suc, ◌+◌, ◌≤◌, Bool, true, false, cond, nat_le, List, [], length, drop, All, Option, Some, None, IfSome, option_map, refl, arith, leb-true}
+use Rattle.std.proofs.lemmas.Bool.{and_parts}
 use Rattle.std.proofs.lemmas.List.Elements.{All-cons, All-nil, All-weaker}
 use Rattle.aftr_base.specs.Bytes.{u8_at, u64_at}
 use Rattle.aftr_base.specs.declared.event.Event.{Event}

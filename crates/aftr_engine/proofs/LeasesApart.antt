@@ -1,8 +1,8 @@
 -- Leases that share no port while they are open: each can be closed by its block alone, and a new one may open beside them.
-use Rattle.std.proofs.Common.{◌≡◌, ℕ, zero, suc, ◌+◌, ◌<◌, ◌≤◌, ◌==◌, Bool, true, false, cond, not, ◌&&◌, ◌||◌, nat_le, nat_lt, List, [], ◌∷◌, ◌++◌, length, get_or, take, map, filter, All, AllPairs, Option, Some, None, is_none, refl, sym, ap, ◌∙◌, subst, arith, length-append, eq-eqb, le-leb}
+use Rattle.std.proofs.Common.{◌≡◌, ℕ, zero, suc, ◌<◌, ◌==◌, Bool, true, false, cond, not, ◌&&◌, ◌||◌, nat_le, nat_lt, List, [], ◌∷◌, ◌++◌, length, get_or, take, filter, All, AllPairs, Option, Some, None, is_none, refl, sym, ap, ◌∙◌, subst, arith, length-append}
 use Rattle.std.specs.Prelude.{if◌then◌else◌}
 use Rattle.std.specs.List.{list_all}
-use Rattle.std.proofs.lemmas.Bool.{and_from, and_left, false_from_ne_true, or_left, true≢false}
+use Rattle.std.proofs.lemmas.Bool.{and_from, false_from_ne_true, or_left, true≢false}
 use Rattle.std.proofs.lemmas.Bool.Decides.{nat_tests}
 use Rattle.std.proofs.lemmas.List.{get_or_push}
 use Rattle.std.proofs.lemmas.List.Elements.{All-head, All-tail, All-filter, All-take, filter_passes}
@@ -11,7 +11,6 @@ use Rattle.aftr_base.specs.Plan.{is_prefix6}
 use Rattle.aftr_base.specs.Value.{moment, subscriber_eq}
 use Rattle.aftr_base.specs.declared.row.LeaseRow.{LeaseRow}
 use Rattle.aftr_base.specs.declared.value.Moment.{Moment}
-use Rattle.aftr_base.specs.declared.value.Subscriber.{Subscriber}
 use Rattle.aftr_engine.specs.declared.nat_mapping.Row.{Row}
 use Rattle.aftr_engine.specs.lease_log.Told.{is_lease_of, may_close, may_open, with_closed}
 use Rattle.aftr_engine.specs.nat_mapping.Rows.{in_use}
@@ -84,7 +83,7 @@ closes_behind now x (l ∷ ls) before after others closes =
     let left : with_closed (x ∷ before) b ≡ x ∷ with_closed before b = ap (λ (same : Bool). (if same then ended now x else x) ∷ with_closed before b) other in (
       ap (λ (same : Bool). (same && nat_le x.since.0 now) || may_close before b) other ∙ closes.0,
       subst (λ (xs : List LeaseRow). Closes now xs ls (x ∷ after)) (sym left)
-      (closes_behind now x ls (with_closed before b) after (All-tail (λ y. is_lease_of y x ≡ false) l ls others) closes.1),
+          (closes_behind now x ls (with_closed before b) after (All-tail (λ y. is_lease_of y x ≡ false) l ls others) closes.1),
     )
 
 -- a block that is none of these leases changes nothing
@@ -110,7 +109,7 @@ closes_front now l ls before after unended begun others closes =
     ∙ ap (λ (xs : List LeaseRow). ended now l ∷ xs) (closed_none now l before others) in (
       or_left (is_lease_of l l && nat_le l.since.0 now) (may_close before b) (and_from (is_lease_of l l) (nat_le l.since.0 now) (itself l unended) begun),
       subst (λ (xs : List LeaseRow). Closes now xs ls (ended now l ∷ after)) (sym left)
-      (closes_behind now (ended now l) ls before after (λ (k : ℕ) (d : LeaseRow) (inside : k < length ls). refl) closes),
+          (closes_behind now (ended now l) ls before after (λ (k : ℕ) (d : LeaseRow) (inside : k < length ls). refl) closes),
     )
 
 open_if_idle : (unended free : Bool) → (unended && free) ≡ true → unended ≡ true

@@ -1,5 +1,5 @@
 -- Logs that are sound: from which leases to which their records lead.
-use Rattle.std.proofs.Common.{◌≡◌, ℕ, zero, suc, ◌+◌, ◌<◌, ◌≤◌, Bool, true, false, List, [], ◌∷◌, ◌++◌, length, drop, map, flat_map, All, Option, Some, None, Result, Ok, refl, sym, ap, ◌∙◌, subst, append_assoc, append-nil, arith}
+use Rattle.std.proofs.Common.{◌≡◌, ℕ, ◌+◌, ◌≤◌, Bool, true, false, List, [], ◌∷◌, ◌++◌, length, map, flat_map, All, Some, None, Ok, sym, ap, ◌∙◌, subst, append_assoc, append-nil, arith}
 use Rattle.std.specs.Prelude.{if◌then◌else◌}
 use Rattle.std.proofs.lemmas.List.{length-append, drop-append-le}
 use Rattle.std.proofs.lemmas.List.Elements.{All-head, All-tail}
@@ -12,7 +12,7 @@ use Rattle.aftr_engine.specs.lease_log.Told.{after_record, log_moment_limit, may
 use Rattle.aftr_engine.specs.lease_log.Answers.{told_from, Takes}
 use Rattle.aftr_engine.proofs.Records.{length_record}
 use Rattle.aftr_engine.proofs.RecordsRead.{Fills, block_at, open_block, record_told}
-use Rattle.aftr_engine.proofs.ToldSteps.{goes_on, record_front}
+use Rattle.aftr_engine.proofs.ToldSteps.{goes_on}
 
 -- whole and sound records that lead from the leases before them to these, wherever they stand and whatever comes behind
 abbrev pub Reads : List LeaseRow → List ℕ → List LeaseRow → Type 0
@@ -31,11 +31,11 @@ reads_both before now next front rest first second at after =
     ∙ second (at + length front) after
     ∙ ap (λ (n : ℕ). told_from n next after) sums
 
-reads_one : (before now : List LeaseRow) (bytes : List ℕ) → length bytes ≡ 34 → after_record before bytes ≡ Some now → Reads before bytes now
+reads_one : (before now : List LeaseRow) (bytes : List ℕ) → length bytes ≡ 34 → ((rest : List ℕ) → after_record before (bytes ++ rest) ≡ Some now) → Reads before bytes now
 reads_one before now bytes size told at after =
     let sums : at + 34 ≡ at + length bytes = omega (arith, size) in
     let short : length bytes ≤ 34 = omega (arith, size) in
-    goes_on at before now (bytes ++ after) (omega (arith, size, length-append bytes after)) (record_front before bytes after (omega (arith, size)) ∙ told)
+    goes_on at before now (bytes ++ after) (omega (arith, size, length-append bytes after)) (told after)
     ∙ ap (told_from (at + 34) now) (drop-append-le 34 bytes after (omega (arith, size)) ∙ ap (λ (l : List ℕ). l ++ after) (drop_of_length-le bytes short))
     ∙ ap (λ (n : ℕ). told_from n now after) sums
 
@@ -49,7 +49,7 @@ pub reads_opening : (leases : List LeaseRow) (l : LeaseRow) → Fills l → l.un
     → Reads leases (opening_record l) (leases ++ l ∷ [])
 reads_opening leases l fills unended early may =
     reads_one leases (leases ++ l ∷ []) (opening_record l) (length_record true l.since l)
-    (record_told true l.since l leases fills early
+    (λ (rest : List ℕ). record_told true l.since l leases rest fills early
     ∙ ap (λ (b : LeaseRow). if may_open leases b then Some (leases ++ b ∷ []) else None) (open_block l unended)
     ∙ ap (λ (b : Bool). if b then Some (leases ++ l ∷ []) else None) may)
 
@@ -58,7 +58,7 @@ pub reads_closing : (now : ℕ) (leases : List LeaseRow) (l : LeaseRow) → Fill
 reads_closing now leases l fills early may =
     let b = block_at (moment now) l in
     reads_one leases (with_closed leases b) (closing_record (ended now l)) (length_record false (moment now) l)
-    (record_told false (moment now) l leases fills early
+    (λ (rest : List ℕ). record_told false (moment now) l leases rest fills early
     ∙ ap (λ (may_ : Bool). if may_ then Some (with_closed leases b) else None) may)
 
 -- each of these leases may close in its turn, and that leads from the leases before to these

@@ -1,15 +1,14 @@
 -- The log of a run reads back as the run's leases.
-use Rattle.std.proofs.Common.{◌≡◌, ℕ, zero, suc, ◌+◌, ◌<◌, ◌≤◌, ◌^◌, Bool, true, false, cond, ◌&&◌, nat_le, nat_lt, List, [], ◌∷◌, ◌++◌, length, get_or, take, map, filter, flat_map, All, AllPairs, Option, Some, None, IfSome, Result, Ok, refl, sym, ap, ◌∙◌, subst, append-nil, arith, length-append, leb-true, le-leb, ltb-true, ltb-false}
+use Rattle.std.proofs.Common.{◌≡◌, ℕ, zero, suc, ◌<◌, ◌≤◌, ◌^◌, Bool, true, false, cond, ◌&&◌, nat_le, nat_lt, List, [], ◌∷◌, ◌++◌, length, get_or, take, filter, flat_map, All, AllPairs, Option, Some, None, IfSome, Ok, refl, sym, ap, ◌∙◌, subst, append-nil, arith, length-append, leb-true, le-leb, ltb-true}
 use Rattle.std.specs.Prelude.{option_to_list, if◌then◌else◌}
 use Rattle.std.proofs.lemmas.Bool.{and_parts}
 use Rattle.std.proofs.lemmas.Bool.Decides.{nat_tests}
 use Rattle.std.proofs.lemmas.List.{get_or_push}
-use Rattle.std.proofs.lemmas.List.Elements.{All-append, All-cons, All-filter, All-head, All-nil, All-push, All-tail, All-take}
+use Rattle.std.proofs.lemmas.List.Elements.{All-cons, All-filter, All-head, All-nil, All-push, All-tail, All-take}
 use Rattle.aftr_base.specs.Plan.{is_prefix6}
 use Rattle.aftr_base.specs.Row.{ended}
 use Rattle.aftr_base.specs.declared.event.Event.{Event}
 use Rattle.aftr_base.specs.declared.row.LeaseRow.{LeaseRow}
-use Rattle.aftr_engine.specs.declared.cfg_text.Config.{Config}
 use Rattle.aftr_engine.specs.declared.nat_mapping.Row.{Row}
 use Rattle.aftr_engine.specs.cfg_text.Defaults.{defaults}
 use Rattle.aftr_engine.specs.aftr_engine.EndToEnd.{log_of, run_of}

@@ -1,15 +1,15 @@
 -- The fields of a log's record, read from its bytes.
-use Rattle.std.proofs.Common.{◌≡◌, ℕ, suc, ◌+◌, ◌*◌, ◌/◌, ◌%◌, ◌^◌, ◌<◌, ◌≤◌, Bool, true, false, List, [], ◌∷◌, ◌++◌, length, Some, None, Option, refl, sym, ap, ◌∙◌, arith}
+use Rattle.std.proofs.Common.{◌≡◌, ℕ, ◌+◌, ◌*◌, ◌/◌, ◌%◌, ◌^◌, ◌<◌, ◌≤◌, Bool, true, false, List, ◌++◌, length, None, Option, refl, sym, ap, ◌∙◌, arith}
 use Rattle.std.specs.Prelude.{nat_le, ◌&&◌, if◌then◌else◌}
 use Rattle.std.specs.Int.{w128, from_be_bytes, to_be_bytes}
 use native.Mathlib.Nat.{div-div-eq-div-mul}
 use Rattle.std.proofs.lemmas.Bool.{le-leb}
+use Rattle.std.proofs.lemmas.List.{length-append}
 use Rattle.std.proofs.lemmas.Nat.{from_be_bytes-to_be_bytes_2, from_be_bytes-to_be_bytes_4, from_be_bytes-to_be_bytes_8}
-use Rattle.aftr_base.specs.Value.{moment}
 use Rattle.aftr_base.specs.Bytes.{u8_at, u64_at, be16, be32, be64, be128}
 use Rattle.aftr_base.specs.declared.row.LeaseRow.{LeaseRow}
 use Rattle.aftr_base.specs.declared.value.Moment.{Moment}
-use Rattle.aftr_engine.specs.nat_events.Spelling.{block_record, event_number}
+use Rattle.aftr_engine.specs.nat_events.Spelling.{block_record, closing_record, end_of, event_number, opening_record}
 use Rattle.aftr_engine.specs.lease_log.Told.{after_event, after_record, block_in, log_moment_limit}
 use Rattle.aftr_engine.proofs.Records.{length_record}
 use Rattle.aftr_engine.proofs.ToldSteps.{block_of, same_block, same_of_four}
@@ -63,38 +63,47 @@ pub record Fills (l : LeaseRow) : Type 0 where
 abbrev pub block_at : Moment → LeaseRow → LeaseRow
 block_at at l = block_of l.owner.0.bits.0 l.owner.0.len l.addr.0 l.first l.last at.0
 
-pub block_back : (opens : Bool) (at : Moment) (l : LeaseRow) → Fills l → at.0 < 2 ^ 64 → block_in (block_record opens at l) ≡ block_at at l
-unfolding be16 be32 be64 be128
-block_back opens at l fills early =
-    same_block _ _ _ _ _ _ _ _ _ _ _ _
-    (be128_back l.owner.0.bits.0 fills.owner)
-    refl
-    (from_be_bytes-to_be_bytes_4 l.addr.0 fills.addr)
-    (from_be_bytes-to_be_bytes_2 l.first fills.first)
-    (from_be_bytes-to_be_bytes_2 l.last fills.last)
-    (from_be_bytes-to_be_bytes_8 at.0 early)
+-- the block, the event and the moment that these bytes begin with
+pub record ReadsAs (bytes : List ℕ) (number at : ℕ) (b : LeaseRow) : Type 0 where
+  pub block : block_in bytes ≡ b
+  pub event : u8_at 8 bytes ≡ number
+  pub moment : u64_at 0 bytes ≡ at
 
-pub event_back : (opens : Bool) (at : Moment) (l : LeaseRow) → u8_at 8 (block_record opens at l) ≡ event_number opens
+-- a record reads back, whatever stands behind it
+pub record_back : (opens : Bool) (at : Moment) (l : LeaseRow) (rest : List ℕ) → Fills l → at.0 < 2 ^ 64
+    → ReadsAs (block_record opens at l ++ rest) (event_number opens) at.0 (block_at at l)
 unfolding be16 be32 be64 be128
-event_back opens at l = refl
+record_back opens at l rest fills early = record {
+  block =
+      same_block _ _ _ _ _ _ _ _ _ _ _ _
+      (be128_back l.owner.0.bits.0 fills.owner)
+      refl
+      (from_be_bytes-to_be_bytes_4 l.addr.0 fills.addr)
+      (from_be_bytes-to_be_bytes_2 l.first fills.first)
+      (from_be_bytes-to_be_bytes_2 l.last fills.last)
+      (from_be_bytes-to_be_bytes_8 at.0 early);
+  event = refl;
+  moment = from_be_bytes-to_be_bytes_8 at.0 early;
+}
 
-pub moment_back : (opens : Bool) (at : Moment) (l : LeaseRow) → at.0 < 2 ^ 64 → u64_at 0 (block_record opens at l) ≡ at.0
-unfolding be16 be32 be64 be128
-moment_back opens at l early = from_be_bytes-to_be_bytes_8 at.0 early
+pub opening_back : (l : LeaseRow) (rest : List ℕ) → Fills l → l.since.0 < 2 ^ 64 → ReadsAs (opening_record l ++ rest) 16 l.since.0 (block_at l.since l)
+opening_back l rest fills early = record_back true l.since l rest fills early
 
--- the block of a lease that is open from this moment on is the lease
+pub closing_back : (l : LeaseRow) (rest : List ℕ) → Fills l → (end_of l).0 < 2 ^ 64 → ReadsAs (closing_record l ++ rest) 17 (end_of l).0 (block_at (end_of l) l)
+closing_back l rest fills early = record_back false (end_of l) l rest fills early
+
+-- the block of a lease that is open, from its begin on, is the lease
 pub open_block : (l : LeaseRow) → l.until ≡ None → block_at l.since l ≡ l
 open_block l unended = ap (λ (until : Option Moment). record l { until = until }) (sym unended)
 
 -- what a record of the log tells: its event, at its moment
-pub record_told : (opens : Bool) (at : Moment) (l : LeaseRow) (leases : List LeaseRow) → Fills l → at.0 ≤ log_moment_limit
-    → after_record leases (block_record opens at l) ≡ after_event (event_number opens) leases (block_at at l)
-record_told opens at l leases fills early =
+pub record_told : (opens : Bool) (at : Moment) (l : LeaseRow) (leases : List LeaseRow) (rest : List ℕ) → Fills l → at.0 ≤ log_moment_limit
+    → after_record leases (block_record opens at l ++ rest) ≡ after_event (event_number opens) leases (block_at at l)
+record_told opens at l leases rest fills early =
     let bytes : List ℕ = block_record opens at l in
     let size = length_record opens at l in
+    let back = record_back opens at l rest fills (omega (arith, early)) in
     same_of_four (λ (whole : Bool) (moment event : ℕ) (b : LeaseRow). if whole && nat_le moment log_moment_limit then after_event event leases b else None) _ _ _ _ _ _ _ _
-    (le-leb 34 (length bytes) (omega (arith, size)))
-    (moment_back opens at l (omega (arith, early)))
-    (event_back opens at l)
-    (block_back opens at l fills (omega (arith, early)))
+    (le-leb 34 (length (bytes ++ rest)) (omega (arith, size, length-append bytes rest)))
+    back.moment back.event back.block
     ∙ ap (λ (in_time : Bool). if true && in_time then after_event (event_number opens) leases (block_at at l) else None) (le-leb at.0 log_moment_limit early)

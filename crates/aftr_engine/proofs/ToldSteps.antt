@@ -69,7 +69,7 @@ block_front r s long =
 pub same_of_four : {A B C D R : Type 0} (f : A → B → C → D → R) (a a' : A) (b b' : B) (c c' : C) (d d' : D) → a ≡ a' → b ≡ b' → c ≡ c' → d ≡ d' → f a b c d ≡ f a' b' c' d'
 same_of_four f a a' b b' c c' d d' p q r s = cc
 
-pub record_front : (leases : List LeaseRow) (bytes rest : List ℕ) → 34 ≤ length bytes → after_record leases (bytes ++ rest) ≡ after_record leases bytes
+record_front : (leases : List LeaseRow) (bytes rest : List ℕ) → 34 ≤ length bytes → after_record leases (bytes ++ rest) ≡ after_record leases bytes
 record_front leases r s long =
     same_of_four (λ (whole : Bool) (at event : ℕ) (b : LeaseRow). if whole && nat_le at log_moment_limit then after_event event leases b else None) _ _ _ _ _ _ _ _
     (le-leb 34 (length (r ++ s)) (omega (arith, length-append r s)) ∙ sym (le-leb 34 (length r) long))

@@ -4,7 +4,6 @@ use Rattle.std.specs.List.{list_any}
 use Rattle.aftr_base.specs.Value.{ip4_eq, key_eq, subscriber_eq, is_within}
 use Rattle.aftr_base.specs.Plan.{is_prefix6}
 use Rattle.aftr_base.specs.Row.{is_open, overlaps}
-use Rattle.aftr_base.specs.declared.value.Subscriber.{Subscriber}
 use Rattle.aftr_base.specs.declared.row.LeaseRow.{LeaseRow}
 use Rattle.aftr_engine.specs.declared.nat_mapping.Row.{Row}
 use Rattle.aftr_engine.specs.subscriber_table.Under.{subscriber_of}
