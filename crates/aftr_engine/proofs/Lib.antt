@@ -11,6 +11,7 @@ pub mod FrontSteps
 pub mod LeasesApart
 pub mod Lines
 pub mod LogReads
+pub mod LogsTold
 pub mod Numbers
 pub mod Openings
 pub mod Peers

@@ -13,7 +13,7 @@ ghost use Rattle.aftr_engine.specs.aftr_engine.Causes.{at_first, IsCommand, IsRu
 ghost use Rattle.aftr_engine.specs.aftr_engine.Fronts.{HasCome};
 ghost use Rattle.aftr_engine.specs.aftr_engine.Reported.{IsReportOf};
 ghost use Rattle.aftr_engine.specs.aftr_engine.Report.{drop_counts};
-ghost use Rattle.aftr_engine.specs.aftr_engine.EndToEnd.{output_of, log_of, counts_of, summary_of};
+ghost use Rattle.aftr_engine.specs.aftr_engine.EndToEnd.{output_of, log_of, counts_of, run_of, summary_of};
 ghost use Rattle.aftr_engine.specs.aftr_engine.Stops.{AccountsFor};
 ghost use Rattle.aftr_engine.specs.engine.Ended.{counts_between, RefusesBytes, RefusesSize, RunReason, QueryReason, RefusesQuery, IsBadText};
 ghost use Rattle.aftr_base.specs.declared.row.LeaseRow.{LeaseRow};
@@ -52,6 +52,9 @@ pub fn aftr<C: Source, I: Source, P: Plant, R: Sink>(
         sent (P.story plant.new) ≡ sent (P.story plant.old) ++ output_of (at_first [] I.rest inputs.old) }
     ensures log { I.tells → P.tells → IsRun (command_for words.now) → IsAtRecordsEnd result.status →
         content (P.story plant.new) ≡ log_of (at_first [] I.rest inputs.old) }
+    // That log tells exactly the run's leases.
+    ensures tells { I.tells → P.tells → IsRun (command_for words.now) → IsAtRecordsEnd result.status →
+        told_by (content (P.story plant.new)) ≡ Whole (run_of (at_first [] I.rest inputs.old)).state.leases }
     ensures drops { I.tells → IsRun (command_for words.now) → IsAtRecordsEnd result.status →
         result.drops.0 ≡ counts_of (at_first [] I.rest inputs.old) }
     ensures summary { I.tells → R.tells → IsRun (command_for words.now) → result.status ≡ Status.Ok →

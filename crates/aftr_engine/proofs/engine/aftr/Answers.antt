@@ -2,14 +2,35 @@ use Rattle.std.proofs.Common.{◌≡◌, ◌<◌, [], length, get_or, refl, sym,
 use Rattle.std.specs.Prelude.{Some, None}
 use Rattle.plant_io.specs.Story.{content, sent}
 use Rattle.aftr_engine.specs.aftr_engine.Words.{command_for}
-use Rattle.aftr_engine.specs.aftr_engine.Causes.{at_first, IsQuery, text_of}
+use Rattle.aftr_engine.specs.aftr_engine.Causes.{at_first, IsQuery, IsRun, text_of}
 use Rattle.aftr_engine.specs.declared.words.Command.TheVariants.{Run, Trace, Leases}
 use Rattle.aftr_engine.proofs.Sending.{gained_none}
 use Rattle.aftr_engine.proofs.StopSteps.{accounted_start}
 use Rattle.aftr_engine.proofs.Reasons.{first_is, first_set, some_input}
 use Rattle.aftr_engine.proofs.Endings.{ended_run, ended_query, ended_words, text_of_run, text_of_trace, text_of_leases, text_of_words}
+use Rattle.aftr_engine.proofs.LogsTold.{told_whole, was_at_end}
 use Rattle.aftr_engine.proofs.engine.aftr.Goals as goal
 use Rattle.aftr_engine.proofs.engine.aftr.Goals.{in-Some-Run, in-Some-Trace, in-Some-Leases, in-None}
+
+pub returns-clause-tells : goal.returns-clause-tells
+returns-clause-tells g c = λ reads tells run end. elim c.match-command_of.branch [
+  | in-Some-Run w ↦
+      let is : command_for c.args.words.now ≡ Some Run = cc (c.command_of.ensures, w.in-Some-Run.is, w.in-Some-Run.field-0-is) in
+      let some : 0 < length c.args.inputs.now = some_input c.args.words.now (length c.args.inputs.now) is c.requires in
+      let shown = rw w.ended-is at c.reported.ensures in
+      let input = g.I.Source.rest (get_or c.args.inputs.now 0 w.index-inputs-0.result) in
+      rw (w.plant-is, first_is [] g.I.Source.rest c.args.inputs.now w.index-inputs-0.result some)
+      (told_whole (content (g.P.Plant.story w.run-ended.new.plant)) input (w.run-ended.ensures.log reads tells (was_at_end w.run-ended.result.status c.reported.result.status _ shown.status end)))
+  | in-Some-Trace w ↦
+      let is : command_for c.args.words.now ≡ Some (Trace w.in-Some-Trace.addr w.in-Some-Trace.port w.in-Some-Trace.at) = cc (c.command_of.ensures, w.in-Some-Trace.is, w.in-Some-Trace.field-0-is) in
+      absurd (subst IsRun is run)
+  | in-Some-Leases w ↦
+      let is : command_for c.args.words.now ≡ Some Leases = cc (c.command_of.ensures, w.in-Some-Leases.is, w.in-Some-Leases.field-0-is) in
+      absurd (subst IsRun is run)
+  | in-None w ↦
+      let is : command_for c.args.words.now ≡ None = cc (c.command_of.ensures, w.in-None.is) in
+      absurd (subst IsRun is run)
+]
 
 pub returns-clause-part : goal.returns-clause-part
 returns-clause-part g c = λ reads tells. elim c.match-command_of.branch [
