@@ -9,6 +9,7 @@ pub mod FrameSteps
 pub mod FrontSteps
 pub mod Lines
 pub mod Numbers
+pub mod Pairwise
 pub mod Peers
 pub mod ReadyDatagrams
 pub mod Reasons

@@ -8,3 +8,4 @@ pub mod Expiry
 pub mod Step
 pub mod Stepped
 pub mod Run
+pub mod Valid
