@@ -21,4 +21,5 @@ pub mod Sending
 pub mod Spelled
 pub mod StopSteps
 pub mod ToldSteps
+pub mod ValidExpiry
 pub mod Writes

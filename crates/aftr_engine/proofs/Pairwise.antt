@@ -2,7 +2,7 @@
 use Rattle.std.proofs.Common.{◌≡◌, zero, suc, Bool, true, false, cond, List, [], ◌∷◌, map, filter, All, AllPairs, arith}
 use Rattle.std.specs.List.{AllByRecursion, AllZip, list_any}
 use Rattle.std.proofs.lemmas.Bool.{or_cases, or_left, or_right}
-use Rattle.std.proofs.lemmas.List.Elements.{All-head, All-tail, All-cons, All-nil, All-filter, All-from_recursion, recursion_from_All}
+use Rattle.std.proofs.lemmas.List.Elements.{All-head, All-tail, All-cons, All-nil, All-filter, All-map, All-weaker, All-from_recursion, recursion_from_All}
 use Rattle.std.proofs.Common.{inl, inr}
 
 -- each item with each later one
@@ -37,6 +37,17 @@ pairwise_filter R p (x ∷ xs) h = pairs_kept R p (p x) x xs h.0 (pairwise_filte
 
 pub pairs_filter : {X : Type 0} (R : X → X → Type 0) (p : X → Bool) (xs : List X) → AllPairs R xs → AllPairs R (filter p xs)
 pairs_filter R p xs h = pairs_from R (filter p xs) (pairwise_filter R p xs (pairwise_from R xs h))
+
+-- what f makes of each
+pairwise_map : {X : Type 0} (R S : X → X → Type 0) (f : X → X) → ((x y : X) → R x y → S (f x) (f y)) → (xs : List X) → Pairwise R xs → Pairwise S (map f xs)
+pairwise_map R S f keeps [] h = tt
+pairwise_map R S f keeps (x ∷ xs) h = (
+  recursion_from_All (S (f x)) (map f xs) (All-map (S (f x)) f xs (All-weaker (R x) (λ y. S (f x) (f y)) (keeps x) xs (All-from_recursion (R x) xs h.0))),
+  pairwise_map R S f keeps xs h.1,
+)
+
+pub pairs_map : {X : Type 0} (R S : X → X → Type 0) (f : X → X) → ((x y : X) → R x y → S (f x) (f y)) → (xs : List X) → AllPairs R xs → AllPairs S (map f xs)
+pairs_map R S f keeps xs h = pairs_from S (map f xs) (pairwise_map R S f keeps xs (pairwise_from R xs h))
 
 -- ---- each changes, or stays
 
