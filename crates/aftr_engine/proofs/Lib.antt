@@ -5,6 +5,7 @@ pub mod Closings
 pub mod Counts
 pub mod Endings
 pub mod Forwarding
+pub mod Founds
 pub mod FrameSteps
 pub mod FrontSteps
 pub mod Lines
@@ -22,4 +23,5 @@ pub mod Spelled
 pub mod StopSteps
 pub mod ToldSteps
 pub mod ValidExpiry
+pub mod ValidRows
 pub mod Writes
