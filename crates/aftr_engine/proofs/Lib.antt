@@ -23,5 +23,6 @@ pub mod Spelled
 pub mod StopSteps
 pub mod ToldSteps
 pub mod ValidExpiry
+pub mod ValidGrants
 pub mod ValidRows
 pub mod Writes
