@@ -23,6 +23,7 @@ pub mod Spelled
 pub mod StopSteps
 pub mod ToldSteps
 pub mod ValidExpiry
+pub mod ValidForwards
 pub mod ValidGrants
 pub mod ValidRows
 pub mod Writes

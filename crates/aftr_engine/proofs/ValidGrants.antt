@@ -118,14 +118,14 @@ lies_in s who key p e l h k =
     let here = place_parts s.rows key.proto l e k in
     lies_from (row_for who key p e) l (record { lasts = parts.0; owns = parts.1; addr = here.addr; low = here.low; high = here.high })
 
-taken_granted : (s : State) (who : Sender) (key : InnerKey) (p : Peer) (e : Ext) → place_in_lease s who key.proto ≡ Some e → is_granted s (row_for who key p e) ≡ true
+pub taken_granted : (s : State) (who : Sender) (key : InnerKey) (p : Peer) (e : Ext) → place_in_lease s who key.proto ≡ Some e → is_granted s (row_for who key p e) ≡ true
 taken_granted s who key p e h =
     let test = λ (l : LeaseRow). is_open l && subscriber_eq who.owner l.owner in
     any_filter (lies_in_lease (row_for who key p e)) test s.leases
     (first_any (place_in s.rows key.proto) (λ l. test l ≡ true) (lies_in_lease (row_for who key p e)) (open_of who.owner s.leases) e
     (λ l lasts here. lies_in s who key p e l lasts here) (filter_passes test s.leases) h)
 
-taken_free : (s : State) (who : Sender) (key : InnerKey) (e : Ext) → place_in_lease s who key.proto ≡ Some e → All (λ q. is_at key.proto e q ≡ false) s.rows
+pub taken_free : (s : State) (who : Sender) (key : InnerKey) (e : Ext) → place_in_lease s who key.proto ≡ Some e → All (λ q. is_at key.proto e q ≡ false) s.rows
 taken_free s who key e h =
     let test = λ (l : LeaseRow). is_open l && subscriber_eq who.owner l.owner in
     let hit = first_in (place_in s.rows key.proto) (λ l. test l ≡ true) (open_of who.owner s.leases) e (filter_passes test s.leases) h in
