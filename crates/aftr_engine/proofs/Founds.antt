@@ -1,39 +1,9 @@
 -- What is known of an item that a search found, and of a list in which it found none.
-use Rattle.std.proofs.Common.{◌≡◌, ◌⊎◌, inl, inr, ℕ, zero, suc, ◌+◌, ◌-◌, ◌*◌, ◌/◌, ◌%◌, ◌^◌, ◌<◌, ◌≤◌, Bool, true, false, cond, not, ◌&&◌, ◌||◌, ◌==◌, is_none, is_some, List, [], ◌∷◌, ◌++◌, length, map, filter, take, drop, get_or, option_to_list, option_map, Option, Some, None, Result, Ok, Err, ok_or, All, AllPairs, find, flat_map, nat_le, nat_lt, refl, sym, ap, ◌∙◌, subst, append-nil, length-append, arith}
-use Rattle.std.specs.Prelude.{if◌then◌else◌, option_and_then}
-use Rattle.std.specs.Result.{result_ok}
-use Rattle.std.specs.List.{AllZip, AllByRecursion, list_any, list_all, range_with_len}
-use Rattle.std.proofs.lemmas.Bool.{both_ways, and_parts, and_from, and_left, and_right, and_cases, or_cases, or_parts, or_from, or_left, or_right, not_from_true, not-true, leb-true, leb-false, le-leb, lt-leb, ltb-true, lt-ltb, eqb-true, eq-eqb, ne_eqb, cases_lt, cases_Bool}
-use Rattle.std.proofs.lemmas.Bool.Decides.{nat_tests}
-use Rattle.std.proofs.lemmas.List.Folds.{list_any_at, list_any-append}
-use Rattle.std.proofs.lemmas.List.Elements.{All-map, All-filter, All-weaker, All-push, All-head, All-tail, All-nil, All-cons, All-append, filter-append}
-use Rattle.std.proofs.lemmas.List.Quantifiers.{all_pairs_push}
-use Rattle.aftr_base.specs.Attempt.{◌>>◌, require, first_some, or_else}
-use Rattle.aftr_base.specs.Value.{ip4, ip4_eq, ip6_eq, key_eq, place_eq, proto_eq, number_of, place, subscriber_eq, prefix6_eq, is_within, moment}
-use Rattle.aftr_base.specs.Plan.{is_prefix6}
-use Rattle.aftr_base.specs.Row.{is_open, overlaps, ended}
-use Rattle.aftr_base.specs.declared.value.Ip4.{Ip4}
-use Rattle.aftr_base.specs.declared.value.Ip6.{Ip6}
-use Rattle.aftr_base.specs.declared.value.Ext.{Ext}
-use Rattle.aftr_base.specs.declared.value.InnerKey.{InnerKey}
-use Rattle.aftr_base.specs.declared.value.Proto.{Proto}
-use Rattle.aftr_base.specs.declared.value.Moment.{Moment}
-use Rattle.aftr_base.specs.declared.value.Subscriber.{Subscriber}
-use Rattle.aftr_base.specs.declared.row.LeaseRow.{LeaseRow}
-use Rattle.aftr_base.specs.declared.event.Event.{Event}
-use Rattle.aftr_base.specs.declared.event.EventKind.{EventKind}
-use Rattle.aftr_base.specs.declared.event.DropCause.{DropCause}
-use Rattle.aftr_engine.specs.declared.cfg_text.Config.{Config}
-use Rattle.aftr_engine.specs.declared.nat_mapping.Row.{Row}
-use Rattle.aftr_engine.specs.declared.nat_mapping.Peer.{Peer}
-use Rattle.aftr_engine.specs.cfg_text.Defaults.{defaults}
-use Rattle.aftr_engine.specs.nat_mapping.Rows.{in_use, live_peers, expired, find_out, find_in, is_at, least_free, touched, with_peer, has_peer}
-use Rattle.aftr_engine.specs.port_blocks.Free.{open_of, block_anywhere, block_at, block_on, block_ports, addresses_of, opened, is_free, has_ended_for, last_port}
-use Rattle.aftr_engine.specs.subscriber_table.Under.{subscriber_of, prefix_of}
-use Rattle.aftr_engine.specs.xlate_core.State.{State, Step, Sender}
-use Rattle.aftr_engine.specs.xlate_core.Expiry.{Closed, is_idle, with_idle_ended, leases_ended, closing_limit, at_moment}
-use Rattle.aftr_engine.specs.xlate_core.Valid.{IsValid, lies_in_lease, is_granted, is_owned, are_alike, clash, is_lease_by}
-use Rattle.aftr_engine.proofs.Pairwise.{pairs_filter, pairs_map, pairs_zip, all_zip, any_zip, zip_map, zip_same}
+use Rattle.std.proofs.Common.{◌≡◌, ◌⊎◌, inl, inr, ℕ, zero, suc, ◌+◌, ◌<◌, ◌≤◌, Bool, true, false, cond, ◌||◌, List, [], ◌∷◌, filter, option_map, Option, Some, None, All, find, refl, ◌∙◌, subst, arith}
+use Rattle.std.specs.List.{list_any, list_all, range_with_len}
+use Rattle.std.proofs.lemmas.Bool.{and_parts, or_cases, or_parts, or_left, or_right}
+use Rattle.std.proofs.lemmas.List.Elements.{All-weaker, All-head, All-tail, All-nil, All-cons}
+use Rattle.aftr_base.specs.Attempt.{first_some, or_else}
 
 -- ---- one item
 

@@ -24,6 +24,8 @@ pub mod StopSteps
 pub mod ToldSteps
 pub mod ValidExpiry
 pub mod ValidForwards
+pub mod ValidStates
 pub mod ValidGrants
 pub mod ValidRows
+pub mod Treatments
 pub mod Writes
