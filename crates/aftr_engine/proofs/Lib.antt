@@ -5,6 +5,7 @@ pub mod Closings
 pub mod Counts
 pub mod Endings
 pub mod Forwarding
+pub mod Founds
 pub mod FrameMoments
 pub mod FrameSteps
 pub mod FrontSteps
@@ -14,6 +15,7 @@ pub mod LogReads
 pub mod LogsTold
 pub mod Numbers
 pub mod Openings
+pub mod Pairwise
 pub mod Peers
 pub mod ReadBack
 pub mod ReadyDatagrams
@@ -27,4 +29,10 @@ pub mod Sending
 pub mod Spelled
 pub mod StopSteps
 pub mod ToldSteps
+pub mod Treatments
+pub mod ValidExpiry
+pub mod ValidForwards
+pub mod ValidGrants
+pub mod ValidRows
+pub mod ValidStates
 pub mod Writes
