@@ -11,7 +11,7 @@ build:
 
 run: build
 	@folder=$$(mktemp -d) && trap 'rm -rf "$$folder"' EXIT && \
-	$(program) run examples/defaults.toml "$$folder/log" "$$folder/out" $(input) && \
+	$(program) run examples/defaults.toml "$$folder/log" "$$folder/out" "$(input)" && \
 	echo "outlet:" && od -An -v -tx1 "$$folder/out" && \
 	echo "log:" && od -An -v -tx1 "$$folder/log" && \
 	echo "leases:" && $(program) leases "$$folder/log" && \

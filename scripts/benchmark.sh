@@ -11,7 +11,7 @@ if [ ! -x "$program" ]; then
     exit 1
 fi
 
-folder=$(mktemp -d)
+folder=$(mktemp -d) || exit 1
 trap 'rm -rf "$folder"' EXIT
 : > "$folder/config.toml"
 
@@ -20,7 +20,7 @@ time_run() {
     rm -f "$folder/log" "$folder/out"
     local start end
     start=$(date +%s%N)
-    "$program" run "$folder/config.toml" "$folder/log" "$folder/out" "$folder/in0" > "$folder/report"
+    "$program" run "$folder/config.toml" "$folder/log" "$folder/out" "$folder/in0" > "$folder/report" || return 1
     end=$(date +%s%N)
     echo $((end - start))
 }

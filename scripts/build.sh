@@ -3,7 +3,11 @@
 # It says what went wrong, and nothing else.
 set -u
 top=$(cd "$(dirname "$0")/.." && pwd)
-folder=$(mktemp -d)
+if ! command -v rt > /dev/null; then
+    echo "no rt: the Rattle toolchain is missing" >&2
+    exit 1
+fi
+folder=$(mktemp -d) || exit 1
 trap 'rm -rf "$folder"' EXIT
 : > "$folder/config.toml"
 : > "$folder/in0"

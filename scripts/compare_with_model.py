@@ -10,16 +10,18 @@ from __future__ import annotations
 import argparse
 import os
 import random
+import re
 import struct
 import subprocess
 import sys
 import tempfile
-from typing import List, NamedTuple, Optional, Sequence, Tuple
+from typing import List, NamedTuple, Optional, Sequence, Set, Tuple
 
 import model
 from model import CHANGE, PUBLIC, SOFTWIRE, TICK, Files, Inner, Lease, Place, Prefix, Translator
 
 RUN = ["run", "config", "log", "out", "in"]
+ALL_KINDS = 100  # so many streams have each kind of input among them
 
 
 def quads(text: str) -> List[int]:
@@ -444,6 +446,7 @@ class Comparison:
         self.program = os.path.abspath(program)
         self.folder = folder
         self.passed = self.failed = 0
+        self.reports: Set[str] = set()
 
     def called(self, words: List[str], files: Files) -> Tuple[int, bytes, bytes, Files]:
         """Exit status, output, standard error and the files left, in a folder of these files alone."""
@@ -451,7 +454,9 @@ class Comparison:
             with open(os.path.join(self.folder, name), "wb") as out:
                 out.write(data)
         call = [self.program, *words]
-        done = subprocess.run(call, cwd=self.folder, stdin=subprocess.DEVNULL, capture_output=True, check=False)
+        done = subprocess.run(
+            call, cwd=self.folder, stdin=subprocess.DEVNULL, capture_output=True, check=False, timeout=60
+        )
         left: Files = {}
         for entry in os.scandir(self.folder):
             with open(entry.path, "rb") as source:
@@ -475,6 +480,7 @@ class Comparison:
     def compare(self, label: str, words: List[str], files: Files, pieces: Sequence[bytes] = ()) -> model.Answer:
         """One comparison; gives the model's answer. A difference is shown with few pieces of the input."""
         wanted = model.answer(words, files)
+        self.reports.update(re.findall("^(?:fault|drop) [A-Za-z]+|^[a-z]+", wanted.report, re.MULTILINE))
         found = self.differences(words, files, wanted)
         if found:
             self.failed += 1
@@ -482,6 +488,15 @@ class Comparison:
         else:
             self.passed += 1
         return wanted
+
+    def miss(self) -> None:
+        """Counts and prints the lines that no report had, of which the comparison shows nothing."""
+        lines = ["records", "sent", "marks", "named", "unheld", "lease", *(f"drop {cause}" for cause in model.CAUSES)]
+        faults = "BadWords BadConfig BadInput ReadFault LogDamaged AlreadyThere".split()
+        for line in [*lines, *(f"fault {name}" for name in faults)]:
+            if line not in self.reports:
+                self.failed += 1
+                print(f"no report has a line '{line}'")
 
     def show(self, label: str, words: List[str], files: Files, pieces: Sequence[bytes], found: List[str]) -> None:
         if pieces:
@@ -554,6 +569,14 @@ def compare_cuts(comparison: Comparison, label: str, rng: random.Random) -> None
         comparison.compare(f"{label}, cut at {size}", RUN, {"config": b"", "in": data[:size]})
 
 
+def compare_peers(comparison: Comparison, seed: int) -> None:
+    """The run of a subscriber with too many peers, and what its log tells."""
+    session = many_peers(random.Random(seed))
+    files = {"config": b"", "in": b"".join(session.pieces)}
+    answer = comparison.compare(f"seed {seed}, peers", RUN, files, session.pieces)
+    comparison.compare(f"seed {seed}, peers", ["leases", "log"], {"log": answer.files["log"]})
+
+
 def compare_stream(comparison: Comparison, seed: int, number: int, traces: int) -> None:
     """One numbered stream: a run with its log, a log of its own, and words."""
     rng = random.Random(f"{seed} {number}")
@@ -578,15 +601,17 @@ def main() -> int:
     parser.add_argument("--streams", type=int, default=300)
     parser.add_argument("--only", type=int, metavar="NUMBER", help="one stream by its number, to see it again")
     parser.add_argument("--traces", type=int, default=20, help="queries of each run's log")
-    parser.add_argument("--peers", action="store_true", help="also a subscriber with too many peers, which is slow")
     arguments = parser.parse_args()
+    if not os.access(arguments.program, os.X_OK):
+        parser.error(f"no program at {arguments.program}: run scripts/build.sh")
     with tempfile.TemporaryDirectory() as folder:
         comparison = Comparison(arguments.program, folder)
         for number in range(arguments.streams) if arguments.only is None else [arguments.only]:
             compare_stream(comparison, arguments.seed, number, arguments.traces)
-        if arguments.peers:
-            rng = random.Random(arguments.seed)
-            compare_run(comparison, f"seed {arguments.seed}, peers", rng, many_peers(rng), arguments.traces)
+        if arguments.only is None:
+            compare_peers(comparison, arguments.seed)
+        if arguments.only is None and arguments.streams >= ALL_KINDS:
+            comparison.miss()
     print(f"{comparison.passed} passed, {comparison.failed} failed")
     return 1 if comparison.failed else 0
 
