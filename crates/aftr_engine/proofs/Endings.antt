@@ -2,8 +2,9 @@
 use Rattle.std.proofs.Common.{◌≡◌, ◌≢◌, inl, inr, ℕ, ◌<◌, List, [], ◌++◌, length, refl, sym, ap, ◌∙◌, subst, arith}
 use Rattle.std.specs.Prelude.{Option, None, Some, Result, OnOk, OnErr}
 use Rattle.std.specs.declared.result.Result.TheVariants.{Ok as Whole, Err as Damaged}
+use Rattle.plant_io.specs.Causes.{Rose}
 use Rattle.plant_io.specs.Sink.{GainsPart}
-use Rattle.plant_io.specs.Story.{Story, content, sent}
+use Rattle.plant_io.specs.Story.{Story, content, sent, IsSettled}
 use Rattle.aftr_base.specs.declared.value.Ip4.{Ip4}
 use Rattle.aftr_base.specs.declared.value.Moment.{Moment}
 use Rattle.aftr_base.specs.declared.row.LeaseRow.{LeaseRow}
@@ -17,7 +18,7 @@ use Rattle.aftr_engine.specs.declared.tally.Tally.{Tally}
 use Rattle.aftr_engine.specs.link_records.Frames.{frames_of}
 use Rattle.aftr_engine.specs.lease_log.Told.{told_by}
 use Rattle.aftr_engine.specs.trace_query.Names.{name_of}
-use Rattle.aftr_engine.specs.aftr_engine.Report.{fault_line, summary}
+use Rattle.aftr_engine.specs.aftr_engine.Report.{drop_counts, fault_line, summary}
 use Rattle.aftr_engine.specs.aftr_engine.EndToEnd.{run_of, output_of, log_of, counts_of, summary_of}
 use Rattle.aftr_engine.specs.aftr_engine.Fronts.{HasCome}
 use Rattle.aftr_engine.specs.aftr_engine.Causes.{Counts, IsRun, IsQuery, RefusesConfig, RefusesLog, IsForConfig, IsForLog, IsForDamage, IsRefusal, EndsWith, IsAtRecordsEnd, answer_text, text_of}
@@ -122,8 +123,11 @@ pub ended_run : (C I P : Type 0) (command : Option Command) (config input : List
     → RanFor C config P (content before) c was
     → (I → EndsWith (frames_of input).stop was)
     → (P → IsRefusal was → after ≡ before)
+    → (P → IsAtRecordsEnd was → IsSettled after)
+    → (P → was ≡ ReadFault → (Rose c.input.before c.input.after → ⊥) → after ≡ before)
+    → (IsRefusal was → drops ≡ drop_counts [])
     → HasEnded C I P command config input before after c drops was
-ended_run C I P command config input before after c drops was is packets leases counts come why ends kept =
+ended_run C I P command config input before after c drops was is packets leases counts come why ends kept durable unbegun uncounted =
     let log = content before in
     let runs : IsRun command = subst IsRun (sym is) tt in
     record {
@@ -131,9 +135,13 @@ ended_run C I P command config input before after c drops was is packets leases 
       leases = λ reads tells _ end. leases reads tells end;
       counts = λ reads _ end. counts reads end;
       front = λ reads tells _. come reads tells;
+      durable = λ tells _ end. durable tells end;
+      unbegun = λ tells _ faulty same. unbegun tells faulty same;
       whole = λ configs reads tells _ no_config no_log end faultless.
           ended_whole c C P config log (frames_of input).stop was configs tells no_config no_log end faultless why (ends reads);
       damage = λ tells query. absurd (run_is_no_query command is query);
+      kept = λ tells query. absurd (run_is_no_query command is query);
+      undropped = λ query. absurd (run_is_no_query command is query);
       reason = ran command c C P config log was runs why;
       for_config = λ configs. for_config C P config log c was configs why;
       config_refused = λ configs _ some. refuses_config C P config log c was configs some why;
@@ -141,6 +149,7 @@ ended_run C I P command config input before after c drops was is packets leases 
       log_refused = λ tells _ some. refuses_log C P config log c was tells some why;
       for_input = λ reads _. ends reads;
       refused = kept;
+      uncounted = uncounted;
     }
 
 -- a text that is the answer, or the line of a fault, is that of the status
@@ -206,16 +215,20 @@ asked_for_log log disk disk' NoMemory why = tt
 
 pub ended_query : (C I P : Type 0) (command : Option Command) (config input : List ℕ) (before after : Story) (c : Counts) (drops : List ℕ) (was : Status)
     → IsQuery command → (P → IsForDamage (told_by (content before)) was) → QueryReason c.disk.before c.disk.after was → (P → after ≡ before)
-    → HasEnded C I P command config input before after c drops was
-ended_query C I P command config input before after c drops was query damage why same =
+    → drops ≡ drop_counts [] → HasEnded C I P command config input before after c drops was
+ended_query C I P command config input before after c drops was query damage why same none =
     let runs_not = query_is_no_run command query in
     record {
       packets = λ reads tells runs end. absurd (runs_not runs);
       leases = λ reads tells runs end. absurd (runs_not runs);
       counts = λ reads runs end. absurd (runs_not runs);
       front = λ reads tells runs. absurd (runs_not runs);
+      durable = λ tells runs end. absurd (runs_not runs);
+      unbegun = λ tells runs faulty same. absurd (runs_not runs);
       whole = λ configs reads tells runs no_config no_log end faultless. absurd (runs_not runs);
       damage = λ tells _. damage tells;
+      kept = λ tells _. same tells;
+      undropped = λ _. none;
       reason = asked command c was query why;
       for_config = λ configs. asked_for_config config c.disk.before c.disk.after was why;
       config_refused = λ configs runs some. absurd (runs_not runs);
@@ -223,6 +236,7 @@ ended_query C I P command config input before after c drops was query damage why
       log_refused = λ tells runs some. absurd (runs_not runs);
       for_input = λ reads runs. absurd (runs_not runs);
       refused = λ tells _. same tells;
+      uncounted = λ _. none;
     }
 
 pub text_of_trace : (I P : Type 0) (command : Option Command) (addr : Ip4) (port : ℕ) (at : Moment) (input file : List ℕ) (t : Tally) (a : Answer) (was : Status)
@@ -243,16 +257,20 @@ text_of_leases I P command input file t a was is told =
 -- ---- words that are no command
 
 pub ended_words : (C I P : Type 0) (command : Option Command) (config input : List ℕ) (before after : Story) (c : Counts) (drops : List ℕ) (was : Status)
-    → command ≡ None → was ≡ BadWords → after ≡ before → HasEnded C I P command config input before after c drops was
-ended_words C I P command config input before after c drops was no_command bad same =
+    → command ≡ None → was ≡ BadWords → after ≡ before → drops ≡ drop_counts [] → HasEnded C I P command config input before after c drops was
+ended_words C I P command config input before after c drops was no_command bad same none =
     let runs_not : IsRun command → ⊥ = λ runs. subst IsRun no_command runs in
     rw bad (record {
       packets = λ reads tells runs end. absurd (runs_not runs);
       leases = λ reads tells runs end. absurd (runs_not runs);
       counts = λ reads runs end. absurd (runs_not runs);
       front = λ reads tells runs. absurd (runs_not runs);
+      durable = λ tells runs end. absurd (runs_not runs);
+      unbegun = λ tells runs faulty same. absurd (runs_not runs);
       whole = λ configs reads tells runs no_config no_log end faultless. absurd (runs_not runs);
       damage = λ tells _. tt;
+      kept = λ tells _. same;
+      undropped = λ _. none;
       reason = no_command;
       for_config = λ configs. tt;
       config_refused = λ configs runs some. absurd (runs_not runs);
@@ -260,6 +278,7 @@ ended_words C I P command config input before after c drops was no_command bad s
       log_refused = λ tells runs some. absurd (runs_not runs);
       for_input = λ reads runs. tt;
       refused = λ tells _. same;
+      uncounted = λ _. none;
     })
 
 pub text_of_words : (I P : Type 0) (command : Option Command) (input file : List ℕ) (t : Tally) (a : Answer) (was : Status) → was ≡ BadWords → IsTextOf I P command input file was (text_of t a was)

@@ -1,5 +1,5 @@
 -- How far a run under way has come, where it ends.
-use Rattle.std.proofs.Common.{◌≡◌, ℕ, ◌+◌, List, [], ◌∷◌, ◌++◌, length, take, refl, sym, ap, ◌∙◌, arith, append_assoc, length-append}
+use Rattle.std.proofs.Common.{◌≡◌, ◌<◌, ℕ, ◌+◌, List, [], ◌∷◌, ◌++◌, length, take, refl, sym, ap, ◌∙◌, arith, append_assoc, length-append, length-take}
 use Rattle.std.proofs.lemmas.Grind.{flat_map-append}
 use Rattle.std.proofs.lemmas.List.{take_at}
 use Rattle.std.proofs.Math.Seq.{take-append-add}
@@ -64,11 +64,15 @@ way_unlogged I P before now last input left offset s size t way reads tells same
       },
     )
 
+-- there is one more
+one_more : (events seen : List Event) (e : Event) → seen ++ e ∷ [] ≡ take (length seen + 1) events → length seen < length events
+one_more events seen e next = omega (arith, ap length next, length-append seen (e ∷ []), length-take (length seen + 1) events)
+
 -- where the outlet failed, behind the log
 pub way_sending : (I P : Type 0) (before now last : Story) (input left left' : List ℕ) (offset offset' : ℕ) (s : State) (size : ℕ) (t : Tally) (e : Event)
     → IsUnderWay I P input left (sent before) (sent now) (content now) offset s size t → I → P → content before ≡ [] → Reads offset left offset' left' (Got e)
     → GainsPart (output (step s e).items) (sent now) (sent last) → content last ≡ content now ++ logged_by (step s e)
-    → (n : ℕ) × IsSendingNext n input before last
+    → (n : ℕ) × IsSendingNext n input before last t.drops.0
 way_sending I P before now last input left left' offset offset' s size t e way reads tells empty got (count, gained) logged =
     let seen = way.seen in
     let done = way.done tells in
@@ -87,11 +91,13 @@ way_sending I P before now last input left left' offset offset' s size t e way r
     let shorter : length (output (front_run (length seen) input).items) ≡ length first = ap (λ (es : List Event). length (output (first_run es).items)) (sym front) in (
       length seen,
       record {
+        more = one_more (frames_of input).events seen e next;
         count = length first + count;
         behind = omega (arith, shorter);
         packets = gained ∙ ap (λ (l : List ℕ). l ++ take count second) done.packets ∙ append_assoc (sent before) first (take count second)
             ∙ ap (λ (l : List ℕ). sent before ++ l) taken
             ∙ ap (λ (es : List Event). sent before ++ take (length first + count) (output (first_run es).items)) next;
         leases = log ∙ ap (λ (es : List Event). (first_run es).log) next ∙ ap (λ (l : List ℕ). l ++ (front_run (length seen + 1) input).log) (sym empty);
+        counts = way.run.counts ∙ ap (λ (es : List Event). drop_counts (first_run es).drops) front;
       },
     )

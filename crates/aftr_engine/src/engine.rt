@@ -1,10 +1,10 @@
 //! The program's one call, over any objects of the outside.
 ghost use Rattle.std.specs.Prelude.{◌≡◌, ◌≤◌, ◌<◌, [], ◌++◌, List, ℕ, length, OnOk, OnErr, IfOk, IfErr, None};
 ghost use Rattle.std.specs.declared.result.Result.TheVariants.{Ok as Whole};
-ghost use Rattle.plant_io.specs.Causes.{HasCause};
+ghost use Rattle.plant_io.specs.Causes.{HasCause, Rose};
 ghost use Rattle.plant_io.specs.Sink.{GainsPart};
 ghost use Rattle.plant_io.specs.Stops.{StopsLeave};
-ghost use Rattle.plant_io.specs.Story.{content, sent};
+ghost use Rattle.plant_io.specs.Story.{content, sent, IsSettled};
 ghost use Rattle.aftr_engine.specs.link_records.Frames.{frames_of, AtEnd};
 ghost use Rattle.aftr_engine.specs.lease_log.Told.{told_by};
 ghost use Rattle.aftr_engine.specs.trace_query.Names.{name_of};
@@ -55,6 +55,7 @@ pub fn aftr<C: Source, I: Source, P: Plant, R: Sink>(
     // That log tells exactly the run's leases.
     ensures tells { I.tells → P.tells → IsRun (command_for words.now) → IsAtRecordsEnd result.status →
         told_by (content (P.story plant.new)) ≡ Whole (run_of (at_first [] I.rest inputs.old)).state.leases }
+    ensures durable { P.tells → IsRun (command_for words.now) → IsAtRecordsEnd result.status → IsSettled (P.story plant.new) }
     ensures drops { I.tells → IsRun (command_for words.now) → IsAtRecordsEnd result.status →
         result.drops.0 ≡ counts_of (at_first [] I.rest inputs.old) }
     ensures summary { I.tells → R.tells → IsRun (command_for words.now) → result.status ≡ Status.Ok →
@@ -101,8 +102,14 @@ pub fn aftr<C: Source, I: Source, P: Plant, R: Sink>(
         IsFaultless (counts_between C.faults cfg.old cfg.new I.faults inputs.old inputs.new P.disk_faults P.out_faults plant.old plant.new R.faults report.old report.new) →
         IsWhole result.status }
 
-    // A refusal leaves the log and the outlet as they were, and words that are no command leave all so.
+    // A refusal leaves the log and the outlet as they were and drops nothing, and words that are no command leave all so. A
+    // log that isn't empty stays, however the run ends; so do both where the configuration has a byte or can't be read.
     ensures refused { P.tells → IsRefusal result.status → P.story plant.new ≡ P.story plant.old }
+    ensures uncounted { IsRefusal result.status → result.drops.0 ≡ drop_counts [] }
+    ensures spared { P.tells → IsRun (command_for words.now) → 0 < length (content (P.story plant.old)) → P.story plant.new ≡ P.story plant.old }
+    ensures unread { C.tells → P.tells → IsRun (command_for words.now) → 0 < length (C.rest cfg.old) → P.story plant.new ≡ P.story plant.old }
+    ensures unbegun { P.tells → IsRun (command_for words.now) → result.status ≡ Status.ReadFault →
+        ¬ Rose (at_first 0 I.faults inputs.old) (at_first 0 I.faults inputs.new) → P.story plant.new ≡ P.story plant.old }
     ensures untouched { command_for words.now ≡ None → (cfg.new ≡ cfg.old) × (inputs.new ≡ inputs.old) × (plant.new ≡ plant.old) }
 
     // A status other than Ok prints its one line. Where the report fails, it has a first part of its text, and all else is
@@ -231,6 +238,11 @@ fn run<C: Source, I: Source, P: Plant>(
         (P.disk_faults plant.old) (P.disk_faults plant.new) (P.out_faults plant.old) (P.out_faults plant.new) result.status }
     ensures input { I.tells → EndsWith (frames_of (I.rest input.old)).stop result.status }
     ensures refused { P.tells → IsRefusal result.status → P.story plant.new ≡ P.story plant.old }
+    ensures durable { P.tells → IsAtRecordsEnd result.status → IsSettled (P.story plant.new) }
+    ensures uncounted { IsRefusal result.status → result.tally.drops.0 ≡ drop_counts [] }
+    ensures spared { P.tells → 0 < length (content (P.story plant.old)) → P.story plant.new ≡ P.story plant.old }
+    ensures unread { C.tells → P.tells → 0 < length (C.rest cfg.old) → P.story plant.new ≡ P.story plant.old }
+    ensures unbegun { P.tells → result.status ≡ Status.ReadFault → ¬ Rose (I.faults input.old) (I.faults input.new) → P.story plant.new ≡ P.story plant.old }
 {
     if let Err(status) = check_config(alloc, cfg) {
         return Ended::before(status);

@@ -3,7 +3,7 @@ ghost use Rattle.std.specs.Prelude.{◌≡◌, ◌≤◌, [], ◌++◌, List, �
 ghost use Rattle.plant_io.specs.Causes.{Rose};
 ghost use Rattle.plant_io.specs.Sink.{GainsPart};
 ghost use Rattle.plant_io.specs.Stops.{StopsLeave};
-ghost use Rattle.plant_io.specs.Story.{content, sent};
+ghost use Rattle.plant_io.specs.Story.{content, sent, IsSettled};
 ghost use Rattle.aftr_engine.specs.aftr_engine.Fronts.{HasCome};
 ghost use Rattle.aftr_engine.specs.aftr_engine.Stops.{AccountsFor};
 ghost use Rattle.aftr_base.specs.declared.outcome.Status.{Status};
@@ -71,6 +71,7 @@ impl Session {
         ensures part { I.tells → P.tells → GainsPart (output_of (I.rest input.old)) (sent (P.story plant.old)) (sent (P.story plant.new)) }
         ensures log { I.tells → P.tells → IsAtRecordsEnd result → content (P.story plant.new) ≡ log_of (I.rest input.old) }
         ensures stops { I.tells → P.tells → StopsLeave (P.story plant.old) (P.story plant.new) (AccountsFor (I.rest input.old) (sent (P.story plant.old))) }
+        ensures durable { P.tells → IsAtRecordsEnd result → IsSettled (P.story plant.new) }
         ensures counts { I.tells → IsAtRecordsEnd result → HasTallied (I.rest input.old) self.new }
         ensures came { I.tells → P.tells → HasCome (I.rest input.old) (P.story plant.old) (P.story plant.new) (tally_of self.new).drops.0 result }
 

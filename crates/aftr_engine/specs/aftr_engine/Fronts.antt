@@ -1,5 +1,5 @@
 -- How far a run came that ended early.
-use Rattle.std.specs.Prelude.{◌≡◌, ◌≤◌, ◌+◌, ℕ, List, ◌++◌, length, take}
+use Rattle.std.specs.Prelude.{◌≡◌, ◌≤◌, ◌<◌, ◌+◌, ℕ, List, ◌++◌, length, take}
 use Rattle.plant_io.specs.Story.{Story, content, sent}
 use Rattle.aftr_base.specs.declared.outcome.Status.{Status}
 use Rattle.aftr_base.specs.declared.outcome.Status.TheVariants.{ReadFault, LogFault, OutFault, NoMemory}
@@ -22,17 +22,20 @@ pub record HasTreatedFirst (n : ℕ) (input : List ℕ) (before after : Story) (
   pub sends : HasSentFirst n input before after drops
   pub leases : content after ≡ content before ++ (front_run n input).log
 
--- The n first records were treated, what one more logs was logged, and a part of its packets was sent, from their start.
-pub record IsSendingNext (n : ℕ) (input : List ℕ) (before after : Story) : Type 0 where
+-- The n first records were treated, what one more logs was logged, and a part of its packets was sent, from their start. A
+-- record that sends isn't dropped, so the drops are those of the n.
+pub record IsSendingNext (n : ℕ) (input : List ℕ) (before after : Story) (drops : List ℕ) : Type 0 where
+  pub more : n < length (frames_of input).events
   pub count : ℕ
   pub behind : length (output (front_run n input).items) ≤ count
   pub packets : sent after ≡ sent before ++ take count (output (front_run (n + 1) input).items)
   pub leases : content after ≡ content before ++ (front_run (n + 1) input).log
+  pub counts : drops ≡ drop_counts (front_run n input).drops
 
 -- How far a run came that ends so, where that is before the end of its records. Of a log that failed `stops` says what it holds.
 abbrev pub HasCome : List ℕ → Story → Story → List ℕ → Status → Type 0
 HasCome input before after drops ReadFault = (n : ℕ) × HasTreatedFirst n input before after drops
 HasCome input before after drops NoMemory = (n : ℕ) × HasTreatedFirst n input before after drops
 HasCome input before after drops LogFault = (n : ℕ) × HasSentFirst n input before after drops
-HasCome input before after drops OutFault = (n : ℕ) × IsSendingNext n input before after
+HasCome input before after drops OutFault = (n : ℕ) × IsSendingNext n input before after drops
 HasCome input before after drops other = Unit {0}

@@ -2,19 +2,19 @@
 use Rattle.std.specs.Prelude.{◌≡◌, ◌<◌, ℕ, List, [], ◌++◌, length, Option, Some, None}
 use Rattle.std.specs.declared.result.Result.TheVariants.{Ok as Whole}
 use Rattle.plant_io.specs.Sink.{GainsPart}
-use Rattle.plant_io.specs.Story.{Story, content, sent}
+use Rattle.plant_io.specs.Story.{Story, content, sent, IsSettled}
 use Rattle.aftr_base.specs.declared.outcome.Status.{Status}
-use Rattle.aftr_base.specs.declared.outcome.Status.TheVariants.{Ok, OutFault}
+use Rattle.aftr_base.specs.declared.outcome.Status.TheVariants.{Ok, ReadFault, OutFault}
 use Rattle.aftr_base.specs.declared.row.LeaseRow.{LeaseRow}
 use Rattle.aftr_engine.specs.declared.words.Command.{Command}
 use Rattle.aftr_engine.specs.declared.words.Command.TheVariants.{Run, Trace, Leases}
 use Rattle.aftr_engine.specs.link_records.Frames.{frames_of, AtEnd}
 use Rattle.aftr_engine.specs.lease_log.Told.{told_by}
 use Rattle.aftr_engine.specs.trace_query.Names.{name_of}
-use Rattle.aftr_engine.specs.aftr_engine.Report.{fault_line, trace_line, leases_text}
+use Rattle.aftr_engine.specs.aftr_engine.Report.{drop_counts, fault_line, trace_line, leases_text}
 use Rattle.aftr_engine.specs.aftr_engine.EndToEnd.{output_of, log_of, counts_of, summary_of}
 use Rattle.aftr_engine.specs.aftr_engine.Fronts.{HasCome}
-use Rattle.aftr_engine.specs.aftr_engine.Causes.{Counts, IsRun, IsQuery, HasReason, IsFaultless, IsWhole, RefusesConfig, RefusesLog, IsForConfig, IsForLog, IsForDamage, IsRefusal, EndsWith, IsAtRecordsEnd, IsReported}
+use Rattle.aftr_engine.specs.aftr_engine.Causes.{Counts, HasRisen, IsRun, IsQuery, HasReason, IsFaultless, IsWhole, RefusesConfig, RefusesLog, IsForConfig, IsForLog, IsForDamage, IsRefusal, EndsWith, IsAtRecordsEnd, IsReported}
 
 -- the counts of faults of all objects but the report, as of a call whose report didn't fail
 abbrev pub but_report : Counts → Counts
@@ -33,10 +33,14 @@ pub record HasEnded (config_tells input_tells plant_tells : Type 0) (command : O
   pub leases : input_tells → plant_tells → IsRun command → IsAtRecordsEnd status → content after ≡ log_of input
   pub counts : input_tells → IsRun command → IsAtRecordsEnd status → drops ≡ counts_of input
   pub front : input_tells → plant_tells → IsRun command → HasCome input before after drops status
+  pub durable : plant_tells → IsRun command → IsAtRecordsEnd status → IsSettled after
+  pub unbegun : plant_tells → IsRun command → status ≡ ReadFault → ¬ HasRisen c.input → after ≡ before
   pub whole : config_tells → input_tells → plant_tells → IsRun command → config ≡ [] → content before ≡ [] → (frames_of input).stop ≡ AtEnd → IsFaultless c → IsWhole status
   pub for_input : input_tells → IsRun command → EndsWith (frames_of input).stop status
   -- of a query
   pub damage : plant_tells → IsQuery command → IsForDamage (told_by (content before)) status
+  pub kept : plant_tells → IsQuery command → after ≡ before
+  pub undropped : IsQuery command → drops ≡ drop_counts []
   -- of every command
   pub reason : HasReason command c status
   pub for_config : config_tells → IsForConfig config status
@@ -44,6 +48,7 @@ pub record HasEnded (config_tells input_tells plant_tells : Type 0) (command : O
   pub for_log : plant_tells → IsForLog (content before) status
   pub log_refused : plant_tells → IsRun command → 0 < length (content before) → RefusesLog (length (content before)) c status
   pub refused : plant_tells → IsRefusal status → after ≡ before
+  pub uncounted : IsRefusal status → drops ≡ drop_counts []
 
 -- what a command prints that ends well, over an input and a log of these bytes
 abbrev pub IsAnswerOf : Type 0 → Type 0 → Option Command → List ℕ → List ℕ → List ℕ → Type 0

@@ -80,7 +80,7 @@ returns-clause-reported g c = elim c.match-command_of.branch [
         done =
             ended_run g.C.Source.tells g.I.Source.tells g.P.Plant.tells (command_for c.args.words.now) (g.C.Source.rest c.args.cfg.now) input
             (g.P.Plant.story c.args.plant.now) (g.P.Plant.story w.run-ended.new.plant) _ ended.tally.drops.0 ended.status is
-            done.sent done.log (λ reads end. (done.counts reads end).drops) done.came done.reason done.input done.refused;
+            done.sent done.log (λ reads end. (done.counts reads end).drops) done.came done.reason done.input done.refused done.durable done.unbegun done.uncounted;
         prints = λ told. (
           text_of ended.tally ended.answer ended.status,
           text_of_run g.I.Source.tells g.P.Plant.tells (command_for c.args.words.now) input file ended.tally ended.answer ended.status is done.answer done.counts,
@@ -101,7 +101,7 @@ returns-clause-reported g c = elim c.match-command_of.branch [
         done =
             ended_query g.C.Source.tells g.I.Source.tells g.P.Plant.tells (command_for c.args.words.now) (g.C.Source.rest c.args.cfg.now) input
             (g.P.Plant.story c.args.plant.now) (g.P.Plant.story w.trace-ended.new.plant) _ ended.tally.drops.0 ended.status
-            (subst IsQuery (sym is) tt) done.damage done.reason done.same;
+            (subst IsQuery (sym is) tt) done.damage done.reason done.same done.drops;
         prints = λ told. (
           text_of ended.tally ended.answer ended.status,
           text_of_trace g.I.Source.tells g.P.Plant.tells (command_for c.args.words.now) w.in-Some-Trace.addr w.in-Some-Trace.port w.in-Some-Trace.at input file
@@ -123,7 +123,7 @@ returns-clause-reported g c = elim c.match-command_of.branch [
         done =
             ended_query g.C.Source.tells g.I.Source.tells g.P.Plant.tells (command_for c.args.words.now) (g.C.Source.rest c.args.cfg.now) input
             (g.P.Plant.story c.args.plant.now) (g.P.Plant.story w.list-ended.new.plant) _ ended.tally.drops.0 ended.status
-            (subst IsQuery (sym is) tt) done.damage done.reason done.same;
+            (subst IsQuery (sym is) tt) done.damage done.reason done.same done.drops;
         prints = λ told. (
           text_of ended.tally ended.answer ended.status,
           text_of_leases g.I.Source.tells g.P.Plant.tells (command_for c.args.words.now) input file ended.tally ended.answer ended.status is done.told,
@@ -143,7 +143,7 @@ returns-clause-reported g c = elim c.match-command_of.branch [
         done =
             ended_words g.C.Source.tells g.I.Source.tells g.P.Plant.tells (command_for c.args.words.now) (g.C.Source.rest c.args.cfg.now) input
             (g.P.Plant.story c.args.plant.now) (g.P.Plant.story c.args.plant.now) _ ended.tally.drops.0 ended.status
-            is w.before-ended.ensures.status refl;
+            is w.before-ended.ensures.status refl w.before-ended.ensures.drops;
         prints = λ told. (
           text_of ended.tally ended.answer ended.status,
           text_of_words g.I.Source.tells g.P.Plant.tells (command_for c.args.words.now) input file ended.tally ended.answer ended.status w.before-ended.ensures.status,

@@ -94,5 +94,6 @@ returns-in-Err-Log-clause-came g c = λ reads tells.
 
 pub returns-in-Err-Outlet-clause-came : goal.returns-in-Err-Outlet-clause-came
 returns-in-Err-Outlet-clause-came g c = λ reads tells.
-    way_sending _ _ (g.P.Plant.story c.args.plant.now) (g.P.Plant.story c.loop-event.plant) (g.P.Plant.story c.pass.new.plant) _ _ _ _ _ _ _ _ c.in-Got.event c.loop-event.invariant.way reads tells (c.requires.empty tells)
-    (c.in-Got.ensures.reads reads) (c.in-Err-Outlet.ensures.part tells) (c.in-Err-Outlet.ensures.logged tells (cc c.in-Err-Outlet.field-0-is))
+    rw c.in-Err-Outlet.ensures.uncounted
+    (way_sending _ _ (g.P.Plant.story c.args.plant.now) (g.P.Plant.story c.loop-event.plant) (g.P.Plant.story c.pass.new.plant) _ _ _ _ _ _ _ _ c.in-Got.event c.loop-event.invariant.way reads tells (c.requires.empty tells)
+    (c.in-Got.ensures.reads reads) (c.in-Err-Outlet.ensures.part tells) (c.in-Err-Outlet.ensures.logged tells (cc c.in-Err-Outlet.field-0-is)))
