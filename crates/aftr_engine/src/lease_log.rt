@@ -9,7 +9,7 @@ mod told;
 
 use plant_io::{Failed, Plant};
 use std::marker::Model;
-pub use told::{ToldBad, read_told};
+pub use told::{LOG_MOMENT_LIMIT, ToldBad, read_told};
 
 /// Where the log's next record is written. Contracts see the log's size, in bytes.
 #[derive(Debug, Drop)]

@@ -5,6 +5,11 @@ ghost use Rattle.aftr_engine.specs.nat_events.Spelling.{block_record, closing_re
 use aftr_base::{LeaseRow, List, Moment, NoMemory};
 use byteorder::{BigEndian, ByteOrder};
 
+/// natEvent of a block that opens, and of one that closes (RFC 8158 4.3).
+pub const OPENS: u8 = 16;
+
+pub const CLOSES: u8 = 17;
+
 /// How many bytes a record has.
 pub const RECORD_LEN: usize = 34;
 
@@ -75,7 +80,7 @@ fn block_record(opens: bool, at: Moment, lease: &LeaseRow) -> [u8; RECORD_LEN]
 fn event_number(opens: bool) -> u8
     ensures { result ≡ event_number opens }
 {
-    if opens { 16 } else { 17 }
+    if opens { OPENS } else { CLOSES }
 }
 
 // The moment at which a lease ended, or 0 where it is open.

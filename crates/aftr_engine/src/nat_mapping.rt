@@ -96,7 +96,7 @@ impl Table {
         })
     }
 
-    /// Whether the peers of a subscriber's rows are fewer than the limit (RFC 6888 3, REQ-4).
+    /// Whether the peers of a subscriber's rows are fewer than the limit (RFC 6888 3, REQ-5).
     pub fn has_fewer_peers(&self, owner: Subscriber, limit: u32) -> bool
         ensures { result ≡ nat_lt (peer_count owner self.now) limit }
     {

@@ -1,6 +1,6 @@
 //! Numbers in network order (RFC 791, Appendix B).
 ghost use Rattle.std.specs.Prelude.{◌≡◌, ◌+◌, ◌≤◌, length};
-ghost use Rattle.aftr_base.specs.Bytes.{u16_at, u32_at, u128_at};
+ghost use Rattle.aftr_base.specs.Bytes.{u16_at, u32_at, u64_at, u128_at};
 ghost use Rattle.aftr_base.specs.Checksum.{address_words};
 
 use aftr_base::Ip4;
@@ -19,6 +19,17 @@ pub(crate) fn u32_in(bytes: &[u8], at: usize) -> u32
     ensures { result ≡ u32_at at bytes.now }
 {
     u32::from_be_bytes([bytes[at], bytes[at + 1], bytes[at + 2], bytes[at + 3]])
+}
+
+/// The 64-bit number whose eight bytes begin at the offset.
+pub(crate) fn u64_in(bytes: &[u8], at: usize) -> u64
+    requires room { at + 8 ≤ length bytes.now }
+    ensures { result ≡ u64_at at bytes.now }
+{
+    match <[u8; 8]>::try_from(&bytes[at..at + 8]) {
+        Ok(part) => u64::from_be_bytes(part),
+        Err(_) => unreachable!(),
+    }
 }
 
 /// The 128-bit number whose 16 bytes begin at the offset.

@@ -1,4 +1,4 @@
-//! Blocks of ports, and who leases them (RFC 6431 2, RFC 6888 3).
+//! Blocks of ports, and who leases them.
 ghost use Rattle.std.specs.Prelude.{◌≡◌, ◌+◌, ◌-◌, ◌<◌, ◌≤◌, ◌++◌, [], ◌∷◌, ◌&&◌, OnOk, OnErr, IfSome, IsTrue, length, true};
 ghost use Rattle.std.specs.List.{list_all, list_any};
 ghost use Rattle.aftr_base.specs.Attempt.{first_some};

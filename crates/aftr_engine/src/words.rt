@@ -5,10 +5,8 @@ ghost use Rattle.aftr_base.specs.Bytes.{split_on};
 ghost use Rattle.aftr_engine.specs.aftr_engine.Words.{is_odd, number_upto, value_of, is_octet, begins_well, address_in, address_of, traced, with_one, with_four, command_in, command_for, paths_with, paths_for};
 ghost use Rattle.aftr_engine.specs.lease_log.Told.{log_moment_limit};
 
+use crate::lease_log::LOG_MOMENT_LIMIT;
 use aftr_base::{Ip4, Moment, Word};
-
-/// The greatest moment that a trace can ask for, in milliseconds: the last second of a 32-bit clock.
-const MOMENT_LIMIT: u64 = 4_294_967_295_999;
 
 /// A command with its values; its paths are the other words.
 #[derive(Clone, Copy, Debug, PartialEq, Eq)]
@@ -124,7 +122,7 @@ fn trace_of(addr: &[u8], port: &[u8], at: &[u8]) -> Option<Command>
 {
     let addr = address_of(addr)?;
     let port = port_of(port)?;
-    let at = number_of(at, MOMENT_LIMIT)?;
+    let at = number_of(at, LOG_MOMENT_LIMIT)?;
     Some(Command::Trace {
         addr,
         port,

@@ -111,7 +111,7 @@ abbrev pub IsForLog : List ℕ → Status → Type 0
 IsForLog bytes (AlreadyThere size) = size ≡ length bytes
 IsForLog bytes other = Unit {0}
 
--- a query ends well where the log is whole, else with the offset of the damage
+-- a query ends well only where the log is whole, and names damage only with its offset
 abbrev pub IsForDamage : Result (List LeaseRow) ℕ → Status → Type 0
 IsForDamage told Ok = (leases : List LeaseRow) × (told ≡ Whole leases)
 IsForDamage told (LogDamaged offset) = told ≡ Damaged offset

@@ -1,4 +1,4 @@
--- Which block of ports is free for a subscriber (RFC 6431 2, RFC 6888 3), by the lease rows in order of opening.
+-- Which block of ports is free for a subscriber, by the lease rows in order of opening.
 use Rattle.std.specs.Prelude.{ℕ, ◌+◌, ◌-◌, ◌*◌, Bool, false, not, ◌&&◌, ◌||◌, nat_le, nat_lt, List, map, flat_map, filter, find, Option, Some, None, option_map}
 use Rattle.std.specs.List.{list_all, range_with_len}
 use Rattle.aftr_base.specs.Attempt.{first_some}
@@ -14,7 +14,7 @@ use Rattle.aftr_engine.specs.declared.cfg_text.Config.{Config}
 abbrev pub open_of : Subscriber → List LeaseRow → List LeaseRow
 open_of s leases = filter (λ l. is_open l && subscriber_eq s l.owner) leases
 
--- A lease that ended stands in nobody's way after the hold time, and in its own owner's not past its end.
+-- A lease that ended stands in nobody's way after the hold time (RFC 6888 3, REQ-8), and in its own owner's not past its end.
 abbrev pub has_ended_for : Config → Subscriber → ℕ → LeaseRow → Bool
 has_ended_for c s now l =
     elim l.until [

@@ -50,7 +50,7 @@ new_block s who =
     require (length (open_of who.owner s.leases) == 0) QuotaBlocks
     >> ok_or (option_map (new_lease s who) (block_anywhere s.config s.leases who.owner s.clock)) PoolEmpty
 
--- a subscriber may have one more peer (RFC 6888 3, REQ-4)
+-- a subscriber may have one more peer (RFC 6888 3, REQ-5)
 abbrev pub may_peer : State → Sender → Bool
 may_peer s who = nat_lt (peer_count who.owner s.rows) s.config.max_peers
 

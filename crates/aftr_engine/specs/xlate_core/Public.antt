@@ -1,4 +1,4 @@
--- A packet from the public side: the reply to a subscriber, and its way back into the softwire (RFC 6333 5, RFC 2473 3).
+-- A packet from the public side: the reply to a subscriber, and its way back into the softwire (RFC 6333 6.2, RFC 2473 3.1).
 use Rattle.std.specs.Prelude.{ℕ, ◌+◌, ◌-◌, Bool, not, ◌&&◌, ◌==◌, nat_le, List, ◌++◌, length, Option, Some, option_and_then}
 use Rattle.std.specs.Result.{result_ok}
 use Rattle.aftr_base.specs.Value.{place}

@@ -1,4 +1,4 @@
--- From a record's bytes to a datagram that is translated: decapsulation (RFC 2473 3.3, RFC 6333 5), and what is refused.
+-- From a record's bytes to a datagram that is translated: decapsulation (RFC 2473 3.3, RFC 6333 6.2), and what is refused.
 use Rattle.std.specs.Prelude.{ℕ, ◌/◌, Bool, not, ◌&&◌, ◌==◌, nat_le, List, length, Option, Some, None, if◌then◌else◌}
 use Rattle.std.specs.Prelude.{option_and_then}
 use Rattle.std.specs.Result.{result_ok}

@@ -12,7 +12,7 @@ use Rattle.aftr_engine.specs.declared.nat_mapping.Row.{Row}
 use Rattle.aftr_engine.specs.declared.xlate_core.Item.{Item}
 use Rattle.aftr_engine.specs.declared.xlate_core.grant.Sender.{Sender as SenderValue}
 
--- The clock is the greatest moment so far. A packet at or before the floor settles: the log has the names of that time.
+-- The clock is the greatest moment so far. A packet at or before the floor settles; the floor is 0 here.
 pub record State : Type 0 where
   pub config : Config
   pub clock : ℕ

@@ -8,19 +8,14 @@ ghost use Rattle.aftr_base.specs.Row.{ended, is_open, overlaps};
 ghost use Rattle.aftr_engine.specs.lease_log.Answers.{HasFault, Takes, TakesUpTo, TellsFile};
 ghost use Rattle.aftr_engine.specs.lease_log.Told.{after_record, block_in, is_lease_of, may_close, may_open, with_closed};
 
-use crate::nat_events::RECORD_LEN;
-use crate::octets::{u16_in, u32_in, u128_in};
+use crate::nat_events::{CLOSES, OPENS, RECORD_LEN};
+use crate::octets::{u16_in, u32_in, u64_in, u128_in};
 use aftr_base::{Ip4, Ip6, LeaseRow, List, Moment, NoMemory, Prefix6, Subscriber};
 use plant_io::Plant;
 use std::alloc::Global;
 
 /// The greatest moment of a record, in milliseconds: the last second of a 32-bit clock.
-const LOG_MOMENT_LIMIT: u64 = 4_294_967_295_999;
-
-// natEvent of a block that opens, and of one that closes (RFC 8158 4.3)
-const OPENS: u8 = 16;
-
-const CLOSES: u8 = 17;
+pub const LOG_MOMENT_LIMIT: u64 = 4_294_967_295_999;
 
 /// How many bytes a read of the log takes at most: 2,048 records.
 const PIECE: usize = 69_632;
@@ -181,19 +176,8 @@ fn block_in(bytes: &[u8]) -> LeaseRow
         addr: Ip4(u32_in(bytes, 26)),
         first: u16_in(bytes, 30),
         last: u16_in(bytes, 32),
-        since: Moment(u64_in_front(bytes)),
+        since: Moment(u64_in(bytes, 0)),
         until: None,
-    }
-}
-
-/// The 64-bit number of the first eight bytes.
-fn u64_in_front(bytes: &[u8]) -> u64
-    requires { 8 ≤ length bytes.now }
-    ensures { result ≡ u64_at 0 bytes.now }
-{
-    match <[u8; 8]>::try_from(&bytes[..8]) {
-        Ok(part) => u64::from_be_bytes(part),
-        Err(_) => unreachable!(),
     }
 }
 

@@ -4,10 +4,11 @@ ghost use Rattle.aftr_base.specs.Bytes.{u32_at, u64_at};
 ghost use Rattle.aftr_engine.specs.link_records.Frames.{input_limit, kind_of, frame_len};
 ghost use Rattle.aftr_engine.specs.link_records.Front.{Scans, HeadOf};
 
+use crate::octets::{u32_in, u64_in};
 use aftr_base::{EventKind, Moment};
 
 /// The greatest moment of a record, in milliseconds: the last second of a 32-bit clock, less an hour.
-const MOMENT_LIMIT: u64 = 4_294_963_695_999;
+const INPUT_MOMENT_LIMIT: u64 = 4_294_963_695_999;
 
 /// The offset, in bytes, by which each record of an input ends.
 const INPUT_LIMIT: u64 = 1 << 50;
@@ -69,7 +70,7 @@ fn head_of(bytes: &[u8], len: usize) -> Option<Head>
 {
     let at = u64_in(bytes, 5);
     let kind = kind_of(bytes[4])?;
-    if kind == EventKind::Tick && len != HEAD || MOMENT_LIMIT < at {
+    if kind == EventKind::Tick && len != HEAD || INPUT_MOMENT_LIMIT < at {
         return None;
     }
     Some(Head {
@@ -90,29 +91,4 @@ fn kind_of(number: u8) -> Option<EventKind>
         4 => Some(EventKind::Change),
         _ => None,
     }
-}
-
-/// The number in network order at this place.
-fn u32_in(bytes: &[u8], i: usize) -> u32
-    requires { i + 4 ≤ length bytes.now }
-    ensures { result ≡ u32_at i bytes.now }
-{
-    u32::from_be_bytes([bytes[i], bytes[i + 1], bytes[i + 2], bytes[i + 3]])
-}
-
-/// The number in network order at this place.
-fn u64_in(bytes: &[u8], i: usize) -> u64
-    requires { i + 8 ≤ length bytes.now }
-    ensures { result ≡ u64_at i bytes.now }
-{
-    u64::from_be_bytes([
-        bytes[i],
-        bytes[i + 1],
-        bytes[i + 2],
-        bytes[i + 3],
-        bytes[i + 4],
-        bytes[i + 5],
-        bytes[i + 6],
-        bytes[i + 7],
-    ])
 }

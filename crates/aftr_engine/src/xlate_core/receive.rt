@@ -1,4 +1,4 @@
-//! From a record's bytes to a datagram that is translated, either way (RFC 2473 3.3, RFC 6333 5).
+//! From a record's bytes to a datagram that is translated, either way (RFC 2473 3.3, RFC 6333 6.2).
 ghost use Rattle.std.specs.Prelude.{◌≡◌, ◌+◌, ◌≤◌, ◌&&◌, ◌||◌, not, nat_le, nat_lt, length, true, IfSome};
 ghost use Rattle.std.specs.List.{list_any};
 ghost use Rattle.aftr_base.specs.Value.{front_bits, is_under4};

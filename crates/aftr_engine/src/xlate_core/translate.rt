@@ -1,4 +1,4 @@
-//! Translation of a whole datagram, on its way out (RFC 3022 4, RFC 4787 4) and back into a softwire (RFC 6333 5).
+//! Translation of a whole datagram, on its way out (RFC 3022 4, RFC 4787 4) and back into a softwire (RFC 6333 6.2).
 ghost use Rattle.std.specs.Prelude.{◌≡◌, ◌+◌, ◌-◌, ◌*◌, ◌≤◌, [], ◌∷◌, ◌++◌, length, OnOk};
 ghost use Rattle.aftr_base.specs.Checksum.{address_words, adjusted};
 ghost use Rattle.aftr_engine.specs.wire_ip4.Grammar.{header_bytes};
