@@ -122,7 +122,8 @@ impl Gate {
     }
 
     /// Takes one record through the translator, logs the leases that it closes and opens, and then sends its
-    /// packets. `Log` and `Outlet` come where the file or the outlet failed; after an `Err` nothing more may pass.
+    /// packets. `Log` and `Outlet` come where the file or the outlet failed, and `NoMemory` before either was touched; after
+    /// an `Err` nothing more may pass.
     pub fn pass<P: Plant>(
         &mut self,
         alloc: Global,

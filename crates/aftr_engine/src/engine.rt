@@ -31,11 +31,16 @@ use plant_io::{Failed, Plant, Sink, Source};
 use std::alloc::Global;
 
 /// Runs a command. `run CONFIG LOG OUTLET INPUT` translates the records of one input of frames, with the default
-/// configuration, onto a log and an outlet that it finds empty. `trace LOG ADDRESS PORT MOMENT` prints who had a
-/// place at a moment, by the log, and `leases LOG` prints all leases that the log tells. The objects are those that
-/// the words name, one input for each: none where they are no command. The answer of every command goes to `report`.
+/// configuration, onto a log that has no byte yet, and sends behind what the outlet has. `trace LOG ADDRESS PORT MOMENT`
+/// prints who had a place at a moment, by the log, and `leases LOG` prints all leases that the log tells. The objects are
+/// those that the words name, one input for each: none where they are no command. The answer of every command goes to
+/// `report`.
 ///
-/// What is refused is refused in this order: the words, the configuration, the log, then the records in theirs.
+/// What is refused is refused in this order: `BadWords` where the words are no command; then, of a run, `BadConfig` where
+/// the configuration has a byte, `AlreadyThere` with the log's size in bytes where it has one, and `BadInput` with the
+/// offset at which no record stands, all before it treated. `LogDamaged` is a query's, with the offset of the first record
+/// that is none. `ReadFault`, `LogFault` and `OutFault` come where a read, the log, or the outlet or the report failed, and
+/// `NoMemory` of every command.
 pub fn aftr<C: Source, I: Source, P: Plant, R: Sink>(
     alloc: Global,
     words: &[Word],
@@ -149,7 +154,7 @@ pub struct Ended {
 }
 
 impl Ended {
-    // An end before a record was treated.
+    // An end before a record was treated, of whatever command.
     fn before(status: Status) -> Self
         ensures status { result.status ≡ status }
         ensures answer { result.answer ≡ Answer.Summary }
@@ -302,7 +307,7 @@ fn check_log<P: Plant>(plant: &mut P) -> Result<(), Status>
     }
 }
 
-// Prints how a run ended, and makes of it what the call answers. A report that fails is an `OutFault`.
+// Prints how a command ended, and makes of it what the call answers. A report that fails is an `OutFault`.
 fn reported<R: Sink>(alloc: Global, ended: Ended, report: &mut R) -> Outcome
     ensures status { IsReported ended.status (record { before = R.faults report.old; after = R.faults report.new }) result.status }
     ensures drops { result.drops ≡ ended.tally.drops }
@@ -329,7 +334,7 @@ fn reported<R: Sink>(alloc: Global, ended: Ended, report: &mut R) -> Outcome
     }
 }
 
-// Prints the summary of a run that ended well, or the line of its fault; an outlet that failed is not reported.
+// Prints the answer of a command that ended well, or the line of its fault; an outlet that failed is not reported.
 fn print<R: Sink>(report: &mut R, ended: &Ended) -> Result<(), Failed>
     ensures text { R.tells → OnOk result (Prints (R.written report.old) (R.written report.new) ended.now.tally ended.now.answer ended.now.status) }
     ensures part { R.tells → GainsPart (text_of ended.now.tally ended.now.answer ended.now.status) (R.written report.old) (R.written report.new) }
