@@ -416,6 +416,17 @@ run run config.toml log out $'in\xff'
 leaves missing missing
 ends_with 1 "fault BadWords"
 
+# 65,536 leases don't fit where the program may have 6,000 KiB in all.
+start_log "a log that tells more than memory holds" "$first_lease $first_closing"
+for ((doubling = 0; doubling < 16; doubling++)); do
+    cat "$work/log" "$work/log" > "$work/twice" && mv "$work/twice" "$work/log"
+done
+(cd "$work" && ulimit -v 6000 && exec "$program" leases log > report 2> errors)
+status=$?
+difference=""
+same "log's size" "$(wc -c < "$work/log")" 4456448
+ends_with 10 "fault NoMemory"
+
 # A full device takes no byte: what is lost there is a fault of the outlet or of the report.
 if [ -w /dev/full ]; then
     start "an outlet that fails" "$first_packet"
