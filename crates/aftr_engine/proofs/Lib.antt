@@ -26,6 +26,7 @@ pub mod RunSteps
 pub mod Runs
 pub mod Searches
 pub mod Sending
+pub mod SoleNames
 pub mod Spelled
 pub mod StopSteps
 pub mod ToldSteps

@@ -7,3 +7,4 @@ pub mod EndToEnd
 pub mod Stops
 pub mod Fronts
 pub mod Reported
+pub mod Attribution
