@@ -1,6 +1,7 @@
 mod ReportRows
 mod WindowSteps
 mod WorkedRows
+pub mod Attribution
 pub mod Closings
 pub mod Counts
 pub mod Endings
@@ -36,4 +37,5 @@ pub mod ValidForwards
 pub mod ValidGrants
 pub mod ValidRows
 pub mod ValidStates
+pub mod WirePlaces
 pub mod Writes

@@ -40,7 +40,7 @@ treated_beside s bytes kind = by_way (IsBeside s) s bytes kind (record {
   forwards = λ got g by ok. record { clock = refl; config = refl };
 })
 
-valid_treated : (s : State) (bytes : List ℕ) (kind : EventKind) → s.config ≡ defaults → IsValid s → IsValid (treatment s kind bytes).state
+pub valid_treated : (s : State) (bytes : List ℕ) (kind : EventKind) → s.config ≡ defaults → IsValid s → IsValid (treatment s kind bytes).state
 valid_treated s bytes kind e v = by_way (λ (t : Step). IsValid t.state) s bytes kind (record {
   rests = v;
   drops = λ cause. v;
