@@ -1,9 +1,8 @@
 -- Lists whose items, and whose pairs of items, pass a test, as the lists change.
-use Rattle.std.proofs.Common.{◌≡◌, zero, suc, Bool, true, false, cond, List, [], ◌∷◌, map, filter, All, AllPairs, arith}
+use Rattle.std.proofs.Common.{◌≡◌, zero, suc, Bool, true, false, cond, List, [], ◌∷◌, map, filter, All, AllPairs, arith, inl, inr}
 use Rattle.std.specs.List.{AllByRecursion, AllZip, list_any}
 use Rattle.std.proofs.lemmas.Bool.{or_cases, or_left, or_right}
 use Rattle.std.proofs.lemmas.List.Elements.{All-head, All-tail, All-cons, All-nil, All-filter, All-map, All-weaker, All-from_recursion, recursion_from_All}
-use Rattle.std.proofs.Common.{inl, inr}
 
 -- each item with each later one
 abbrev pub Pairwise : {X : Type 0} → (X → X → Type 0) → List X → Type 0

@@ -13,7 +13,7 @@ use Rattle.aftr_engine.specs.xlate_core.Receive.{only_where, is_routable, has_ro
 use Rattle.aftr_engine.specs.xlate_core.Ready.{IsReady, is_whole_udp, is_outward, is_homeward, whole_datagram}
 use Rattle.aftr_engine.specs.xlate_core.Public.{is_plain_reply, reply_of}
 
-nothing_in : (xs : List ℕ) → length xs ≡ 0 → xs ≡ []
+pub nothing_in : (xs : List ℕ) → length xs ≡ 0 → xs ≡ []
 nothing_in [] e = refl
 nothing_in (x ∷ xs) e = absurd (omega (arith, e))
 

@@ -5,22 +5,22 @@ use Rattle.std.specs.Result.{result_ok}
 use Rattle.aftr_base.specs.declared.value.Subscriber.{Subscriber}
 use Rattle.aftr_base.specs.declared.event.EventKind.{EventKind}
 use Rattle.aftr_base.specs.declared.event.DropCause.{DropCause}
+use Rattle.aftr_base.specs.declared.event.DropCause.TheVariants.{Settling, NoProtocol, NoMapping, BadChange}
+use Rattle.aftr_base.specs.declared.event.EventKind.TheVariants.{Softwire, Public, Tick, Change, Snapped, Foreign, Stray}
+use Rattle.aftr_base.specs.declared.value.Proto.TheVariants.{Udp}
 use Rattle.aftr_engine.specs.declared.cfg_text.Config.{Config}
 use Rattle.aftr_engine.specs.declared.nat_mapping.Row.{Row}
+use Rattle.aftr_engine.specs.declared.wire_ip6.Ip6Fields.{Ip6Fields}
 use Rattle.aftr_engine.specs.nat_mapping.Rows.{find_in}
 use Rattle.aftr_engine.specs.subscriber_table.Under.{subscriber_of}
 use Rattle.aftr_engine.specs.xlate_core.State.{State, Step, Sender}
-use Rattle.aftr_base.specs.declared.event.DropCause.TheVariants.{Settling, NoProtocol, NoMapping, BadChange}
 use Rattle.aftr_engine.specs.xlate_core.Grant.{Grant, granted}
-use Rattle.aftr_engine.proofs.Founds.{some_inj}
-use Rattle.aftr_base.specs.declared.event.EventKind.TheVariants.{Softwire, Public, Tick, Change, Snapped, Foreign, Stray}
 use Rattle.aftr_engine.specs.xlate_core.Receive.{Received, Datagram, received, received_in, sender_of, is_tunnelled, inner_datagram, only_where}
 use Rattle.aftr_engine.specs.xlate_core.Public.{reply_in, target_of}
 use Rattle.aftr_engine.specs.xlate_core.Translate.{key_of}
 use Rattle.aftr_engine.specs.xlate_core.Step.{treatment, from_subscriber, from_public, forwarded, delivered, dropped, quiet}
-use Rattle.aftr_base.specs.declared.value.Proto.TheVariants.{Udp}
-use Rattle.aftr_engine.specs.declared.wire_ip6.Ip6Fields.{Ip6Fields}
 use Rattle.aftr_engine.specs.wire_ip6.Grammar.{packet_of as ip6_packet}
+use Rattle.aftr_engine.proofs.Founds.{some_inj}
 
 -- ---- what was received
 

@@ -168,7 +168,9 @@ leases_left s now le v =
     let z = idle_end closing_limit now s.rows s.leases in
     let after = with_idle_ended closing_limit now s.rows s.leases in
     record {
-      granted = λ k d lt. any_zip (MayEnd now s.rows) (lies_in_lease (get_or s.rows k d)) (lies_in_lease (get_or s.rows k d)) (λ l m y h. stays now s.rows k d l m lt y h) s.leases after z (v.granted k d lt);
+      granted = λ k d lt.
+          let lies = lies_in_lease (get_or s.rows k d) in
+          any_zip (MayEnd now s.rows) lies lies (λ l m y h. stays now s.rows k d l m lt y h) s.leases after z (v.granted k d lt);
       owned = v.owned;
       apart = v.apart;
       leases = all_zip (MayEnd now s.rows) (λ l. is_lease_by s.clock l ≡ true) (λ l. is_lease_by now l ≡ true) (λ l m y h. lease_later s.clock now s.rows l m le y h) s.leases after z v.leases;

@@ -1,16 +1,9 @@
 -- A valid state stays valid as a packet's grant is carried out, and the packet's place lies in an open lease of its owner.
-use Rattle.std.proofs.Common.{◌≡◌, ◌⊎◌, inl, inr, ℕ, zero, suc, ◌+◌, ◌-◌, ◌*◌, ◌/◌, ◌%◌, ◌^◌, ◌<◌, ◌≤◌, Bool, true, false, cond, not, ◌&&◌, ◌||◌, ◌==◌, is_none, is_some, List, [], ◌∷◌, ◌++◌, length, map, filter, take, drop, get_or, option_to_list, option_map, Option, Some, None, Result, Ok, Err, ok_or, All, AllPairs, find, flat_map, nat_le, nat_lt, refl, sym, ap, ◌∙◌, subst, append-nil, length-append, arith, ap₂}
-use Rattle.std.specs.Prelude.{if◌then◌else◌, option_and_then, IfSome}
-use Rattle.std.specs.Result.{result_ok}
-use Rattle.std.specs.List.{AllZip, AllByRecursion, list_any, list_all, range_with_len}
-use Rattle.std.proofs.lemmas.Bool.{both_ways, and_parts, and_from, and_left, and_right, and_cases, or_cases, or_parts, or_from, or_left, or_right, not_from_true, not_from_false, le-ltb, not-true, leb-true, leb-false, le-leb, lt-leb, ltb-true, lt-ltb, eqb-true, eq-eqb, ne_eqb, cases_lt, cases_Bool, false_from_ne_true, cond-true, cond-false}
-use Rattle.std.proofs.lemmas.Bool.Decides.{nat_tests}
-use Rattle.std.proofs.lemmas.List.Folds.{list_any_at, list_any-append}
-use Rattle.std.proofs.lemmas.List.Elements.{All-map, All-filter, All-weaker, All-push, All-head, All-tail, All-nil, All-cons, All-append, filter-append, filter_passes, recursion_from_All, All-from_recursion}
-use Rattle.std.proofs.lemmas.List.Quantifiers.{all_pairs_push}
-use Rattle.aftr_base.specs.Attempt.{◌>>◌, require, first_some, or_else}
-use Rattle.aftr_base.specs.Value.{ip4, ip4_eq, ip6_eq, key_eq, place_eq, proto_eq, number_of, place, subscriber_eq, prefix6_eq, is_within, moment, ip6}
-use Rattle.aftr_base.specs.Plan.{is_prefix6, prefix6, size4, block_count}
+use Rattle.std.proofs.Common.{◌≡◌, ℕ, ◌+◌, ◌*◌, ◌/◌, ◌%◌, ◌^◌, ◌<◌, ◌≤◌, Bool, true, false, cond, not, ◌&&◌, ◌||◌, ◌==◌, is_none, is_some, List, [], ◌∷◌, ◌++◌, get_or, option_to_list, Option, Some, None, Ok, All, nat_le, nat_lt, refl, sym, ap, ◌∙◌, subst, append-nil, arith, ap₂}
+use Rattle.std.specs.Prelude.{if◌then◌else◌}
+use Rattle.std.proofs.lemmas.Bool.{both_ways, and_parts, and_from, le-leb, lt-ltb, eqb-true, eq-eqb, false_from_ne_true}
+use Rattle.aftr_base.specs.Value.{ip4_eq, ip6_eq, key_eq, place_eq, proto_eq, place, subscriber_eq, ip6}
+use Rattle.aftr_base.specs.Plan.{is_prefix6, prefix6}
 use Rattle.aftr_base.specs.Row.{is_open, overlaps, ended}
 use Rattle.aftr_base.specs.declared.value.Ip4.{Ip4}
 use Rattle.aftr_base.specs.declared.value.Ip6.{Ip6}
@@ -20,44 +13,20 @@ use Rattle.aftr_base.specs.declared.value.Proto.{Proto}
 use Rattle.aftr_base.specs.declared.value.Moment.{Moment}
 use Rattle.aftr_base.specs.declared.value.Subscriber.{Subscriber}
 use Rattle.aftr_base.specs.declared.row.LeaseRow.{LeaseRow}
-use Rattle.aftr_base.specs.declared.event.Event.{Event}
-use Rattle.aftr_base.specs.declared.event.EventKind.{EventKind}
-use Rattle.aftr_base.specs.declared.event.DropCause.{DropCause}
 use Rattle.aftr_engine.specs.declared.cfg_text.Config.{Config}
 use Rattle.aftr_engine.specs.declared.nat_mapping.Row.{Row}
 use Rattle.aftr_engine.specs.declared.nat_mapping.Peer.{Peer}
 use Rattle.aftr_engine.specs.cfg_text.Defaults.{defaults}
-use Rattle.aftr_engine.specs.nat_mapping.Rows.{in_use, live_peers, expired, find_out, find_in, is_at, least_free, touched, with_peer, has_peer}
-use Rattle.aftr_engine.specs.port_blocks.Free.{open_of, block_anywhere, block_at, block_on, block_ports, addresses_of, opened, is_free, has_ended_for, last_port, port_of, addresses_in}
-use Rattle.aftr_engine.specs.subscriber_table.Under.{subscriber_of, prefix_of}
-use Rattle.aftr_engine.specs.xlate_core.State.{State, Step, Sender, is_ours}
-use Rattle.aftr_engine.specs.xlate_core.Expiry.{Closed, is_idle, with_idle_ended, leases_ended, closing_limit, at_moment}
-use Rattle.aftr_engine.specs.xlate_core.Valid.{IsValid, lies_in_lease, is_granted, is_owned, are_alike, clash, is_lease_by}
-use Rattle.aftr_engine.proofs.Pairwise.{pairs_filter, pairs_map, pairs_zip, all_zip, any_zip, zip_map, zip_same, Pairwise, pairwise_from, pairs_from}
-use Rattle.aftr_base.specs.declared.value.Prefix6.{Prefix6}
-use Rattle.aftr_base.specs.declared.event.DropCause.TheVariants.{QuotaPeers, QuotaBlocks, PoolEmpty, Settling, NoProtocol, NoMapping, BadChange}
-use Rattle.aftr_engine.specs.xlate_core.Grant.{Grant, at_once, place_in, place_in_lease, new_lease, new_block, may_peer, granted, row_for, peer_of, rows_after, after_grant}
-use Rattle.aftr_engine.proofs.Founds.{found_passes, found_in, found_none, first_in, first_any, mapped_some, none_any, all_pass, any_filter, in_row, some_inj, any_gives}
-use Rattle.aftr_engine.proofs.ValidExpiry.{LiesIn, lies_parts, lies_from, IsLeaseBy, lease_parts, lease_from, over_before, valid_moment, clock_rises, config_stays, MayEnd, idle_end, ends_by}
-use Rattle.aftr_engine.proofs.ValidRows.{key_same, own_subscriber, same_subscriber, valid_touched, valid_pushed, granted_on, granted_by, valid_opened}
+use Rattle.aftr_engine.specs.nat_mapping.Rows.{find_out, is_at, touched}
+use Rattle.aftr_engine.specs.port_blocks.Free.{block_anywhere, opened, has_ended_for, last_port}
+use Rattle.aftr_engine.specs.subscriber_table.Under.{subscriber_of}
+use Rattle.aftr_engine.specs.xlate_core.State.{State, Sender}
+use Rattle.aftr_engine.specs.xlate_core.Valid.{IsValid, lies_in_lease, is_granted, is_owned, is_lease_by}
+use Rattle.aftr_engine.specs.xlate_core.Grant.{Grant, at_once, new_lease, granted, row_for, peer_of, after_grant}
+use Rattle.aftr_engine.proofs.Founds.{found_passes, found_in, found_none, some_inj, any_gives}
+use Rattle.aftr_engine.proofs.ValidExpiry.{lies_parts, lies_from, lease_from}
+use Rattle.aftr_engine.proofs.ValidRows.{own_subscriber, same_subscriber, valid_touched, valid_pushed, granted_by, valid_opened}
 use Rattle.aftr_engine.proofs.ValidGrants.{GrantCase, Keeps, Takes, Opens, grant_case, taken_granted, taken_free, block_free, no_clash}
-use Rattle.aftr_base.specs.declared.event.EventKind.TheVariants.{Softwire, Public, Tick, Change, Snapped, Foreign, Stray}
-use Rattle.aftr_engine.specs.xlate_core.Receive.{Received, Datagram, received, received_in, sender_of, is_tunnelled, inner_datagram, datagram_of, is_plain, only_where, has_route}
-use Rattle.aftr_engine.specs.xlate_core.Public.{reply_in, target_of, delivered_bytes}
-use Rattle.aftr_engine.specs.xlate_core.Translate.{datagram_bytes, key_of, outbound}
-use Rattle.aftr_engine.specs.xlate_core.Step.{step, treatment, from_subscriber, from_public, forwarded, delivered, dropped, quiet, packet_treated, refused, item}
-use Rattle.aftr_base.specs.declared.value.Proto.TheVariants.{Udp}
-use Rattle.aftr_engine.specs.declared.wire_ip6.Ip6Fields.{Ip6Fields}
-use Rattle.aftr_engine.specs.wire_ip4.Grammar.{Header, packet_of as ip4_packet, header_bytes, is_piece}
-use Rattle.aftr_engine.specs.wire_ip6.Grammar.{packet_of as ip6_packet}
-use Rattle.aftr_engine.specs.wire_l4.Grammar.{udp_of, Udp as UdpDatagram, udp_bytes}
-use Rattle.std.specs.Int.{w16, w32, to_be_bytes, from_be_bytes}
-use Rattle.std.proofs.lemmas.Nat.{from_be_bytes-to_be_bytes_2, from_be_bytes-to_be_bytes_4}
-use Rattle.aftr_base.specs.Bytes.{u16_at, u32_at, be16, be32}
-use Rattle.aftr_engine.specs.declared.xlate_core.Item.{Item}
-use Rattle.aftr_engine.specs.trace_query.Names.{names_of, holds, is_during}
-use Rattle.aftr_base.specs.declared.value.Prefix4.{Prefix4}
-use Rattle.aftr_base.specs.declared.value.Side.TheVariants.{Softwire as SoftwireSide, Public as PublicSide}
 
 -- ---- a subscriber is a prefix
 
@@ -73,7 +42,8 @@ prefix_fits n lt =
     let whole : bits % 2 ^ 72 ≡ 0 = omega arith in
     and_from (nat_lt bits (2 ^ 128)) (bits % 2 ^ 72 == 0) (lt-ltb bits (2 ^ 128) below) (eq-eqb (bits % 2 ^ 72) 0 whole)
 
-of_prefix : (n : ℕ) (b : Bool) (owner : Subscriber) → (b ≡ true → n < 2 ^ 128) → cond (b || false) (Some (record { 0 = prefix6 (n / 2 ^ 72 * 2 ^ 72) 56 })) None ≡ Some owner → is_prefix6 owner.0 ≡ true
+of_prefix : (n : ℕ) (b : Bool) (owner : Subscriber) → (b ≡ true → n < 2 ^ 128)
+    → cond (b || false) (Some (record { 0 = prefix6 (n / 2 ^ 72 * 2 ^ 72) 56 })) None ≡ Some owner → is_prefix6 owner.0 ≡ true
 of_prefix n true owner under h = subst (λ (s : Subscriber). is_prefix6 s.0 ≡ true) (some_inj (record { 0 = prefix6 (n / 2 ^ 72 * 2 ^ 72) 56 }) owner h) (prefix_fits n (under refl))
 of_prefix n false owner under h = cc
 
@@ -194,8 +164,11 @@ valid_grant s who key remote g e owns v h = valid_case s who key remote g e owns
 
 kept_owner : (s : State) (key : InnerKey) (owner : Subscriber) (r : Row) → subscriber_of s.config key.softwire ≡ Some owner → key_eq key r.key ≡ true → is_owned s r ≡ true → r.owner ≡ owner
 kept_owner s key owner r owns same owned =
-    let softwires = (and_parts (ip6_eq key.softwire r.key.softwire) (proto_eq key.proto r.key.proto) (and_parts (ip6_eq key.softwire r.key.softwire && proto_eq key.proto r.key.proto) (ip4_eq key.addr r.key.addr)
-    (and_parts (ip6_eq key.softwire r.key.softwire && proto_eq key.proto r.key.proto && ip4_eq key.addr r.key.addr) (key.port == r.key.port) same).0).0).0 in
+    let by_softwire = ip6_eq key.softwire r.key.softwire in
+    let by_proto = proto_eq key.proto r.key.proto in
+    let by_addr = ip4_eq key.addr r.key.addr in
+    let but_port = (and_parts (by_softwire && by_proto && by_addr) (key.port == r.key.port) same).0 in
+    let softwires = (and_parts by_softwire by_proto (and_parts (by_softwire && by_proto) by_addr but_port).0).0 in
     let one : key.softwire ≡ r.key.softwire = ap ip6 (eqb-true key.softwire.0 r.key.softwire.0 softwires) in
     let known : subscriber_of s.config r.key.softwire ≡ Some owner = ap (λ (a : Ip6). subscriber_of s.config a) (sym one) ∙ owns in
     same_subscriber r.owner owner (sym (ap (λ (o : Option Subscriber). elim o [ None ↦ false | Some x ↦ subscriber_eq r.owner x ]) known) ∙ owned)

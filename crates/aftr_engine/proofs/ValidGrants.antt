@@ -15,6 +15,7 @@ use Rattle.aftr_base.specs.declared.value.Moment.{Moment}
 use Rattle.aftr_base.specs.declared.value.Subscriber.{Subscriber}
 use Rattle.aftr_base.specs.declared.row.LeaseRow.{LeaseRow}
 use Rattle.aftr_base.specs.declared.event.DropCause.{DropCause}
+use Rattle.aftr_base.specs.declared.event.DropCause.TheVariants.{QuotaPeers, QuotaBlocks, PoolEmpty}
 use Rattle.aftr_engine.specs.declared.cfg_text.Config.{Config}
 use Rattle.aftr_engine.specs.declared.nat_mapping.Row.{Row}
 use Rattle.aftr_engine.specs.declared.nat_mapping.Peer.{Peer}
@@ -22,7 +23,6 @@ use Rattle.aftr_engine.specs.nat_mapping.Rows.{find_out, is_at, least_free, has_
 use Rattle.aftr_engine.specs.port_blocks.Free.{open_of, block_anywhere, block_at, block_on, block_ports, addresses_of, opened, is_free, has_ended_for, last_port}
 use Rattle.aftr_engine.specs.xlate_core.State.{State, Sender}
 use Rattle.aftr_engine.specs.xlate_core.Valid.{lies_in_lease, is_granted, clash}
-use Rattle.aftr_base.specs.declared.event.DropCause.TheVariants.{QuotaPeers, QuotaBlocks, PoolEmpty}
 use Rattle.aftr_engine.specs.xlate_core.Grant.{Grant, at_once, place_in, place_in_lease, new_lease, new_block, may_peer, granted, row_for}
 use Rattle.aftr_engine.proofs.Founds.{found_passes, found_in, first_in, first_any, mapped_some, none_any, all_pass, any_filter, in_row}
 use Rattle.aftr_engine.proofs.ValidExpiry.{lies_from, over_before}

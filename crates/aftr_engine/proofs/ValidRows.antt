@@ -20,8 +20,8 @@ use Rattle.aftr_engine.specs.nat_mapping.Rows.{is_at, touched, with_peer}
 use Rattle.aftr_engine.specs.subscriber_table.Under.{subscriber_of}
 use Rattle.aftr_engine.specs.xlate_core.State.{State}
 use Rattle.aftr_engine.specs.xlate_core.Valid.{IsValid, lies_in_lease, is_granted, is_owned, are_alike, clash, is_lease_by}
-use Rattle.aftr_engine.proofs.Pairwise.{pairs_zip, all_zip, zip_map}
 use Rattle.aftr_engine.specs.xlate_core.Grant.{granted}
+use Rattle.aftr_engine.proofs.Pairwise.{pairs_zip, all_zip, zip_map}
 
 -- ---- equal values
 

@@ -7,13 +7,13 @@ use Rattle.aftr_engine.specs.cfg_text.Defaults.{defaults}
 use Rattle.aftr_engine.specs.xlate_core.State.{State, Step}
 use Rattle.aftr_engine.specs.xlate_core.Expiry.{at_moment}
 use Rattle.aftr_engine.specs.xlate_core.Valid.{IsValid, is_granted, is_owned, is_lease_by}
-use Rattle.aftr_engine.proofs.ValidExpiry.{valid_moment, clock_rises, config_stays}
 use Rattle.aftr_engine.specs.xlate_core.Translate.{key_of}
 use Rattle.aftr_engine.specs.xlate_core.Step.{step, treatment}
-use Rattle.aftr_engine.proofs.ValidForwards.{valid_grant}
 use Rattle.aftr_engine.specs.link_records.Frames.{frames_of}
 use Rattle.aftr_engine.specs.xlate_core.Run.{run, start}
 use Rattle.aftr_engine.specs.aftr_engine.Fronts.{front_run}
+use Rattle.aftr_engine.proofs.ValidExpiry.{valid_moment, clock_rises, config_stays}
+use Rattle.aftr_engine.proofs.ValidForwards.{valid_grant}
 use Rattle.aftr_engine.proofs.Treatments.{by_way}
 
 pub valid_start : IsValid (start defaults)
