@@ -10,11 +10,13 @@ ghost use Rattle.aftr_engine.specs.lease_log.Told.{told_by};
 ghost use Rattle.aftr_engine.specs.trace_query.Names.{name_of};
 ghost use Rattle.aftr_engine.specs.aftr_engine.Words.{command_for, paths_for, input_count};
 ghost use Rattle.aftr_engine.specs.aftr_engine.Causes.{at_first, IsCommand, IsRun, IsQuery, HasReason, IsFaultless, IsWhole, RefusesWords, RefusesConfig, RefusesLog, IsForConfig, IsForLog, IsForDamage, IsRefusal, EndsWith, IsAtRecordsEnd, Prints, PrintsFault, PrintsOf, IsReported, answer_text, text_of};
-ghost use Rattle.aftr_engine.specs.aftr_engine.Fronts.{HasCome};
+ghost use Rattle.aftr_engine.specs.aftr_engine.Attribution.{NamesEachSender};
+ghost use Rattle.aftr_engine.specs.aftr_engine.Fronts.{HasCome, front_run};
 ghost use Rattle.aftr_engine.specs.aftr_engine.Reported.{IsReportOf};
 ghost use Rattle.aftr_engine.specs.aftr_engine.Report.{drop_counts};
 ghost use Rattle.aftr_engine.specs.aftr_engine.EndToEnd.{output_of, log_of, counts_of, run_of, summary_of};
 ghost use Rattle.aftr_engine.specs.aftr_engine.Stops.{AccountsFor};
+ghost use Rattle.aftr_engine.specs.xlate_core.Valid.{IsValid};
 ghost use Rattle.aftr_engine.specs.engine.Ended.{counts_between, RefusesBytes, RefusesSize, RunReason, QueryReason, RefusesQuery, IsBadText};
 ghost use Rattle.aftr_base.specs.declared.row.LeaseRow.{LeaseRow};
 ghost use Rattle.aftr_engine.specs.declared.engine.Answer.TheVariants.{Name, Listed};
@@ -57,9 +59,13 @@ pub fn aftr<C: Source, I: Source, P: Plant, R: Sink>(
         sent (P.story plant.new) ≡ sent (P.story plant.old) ++ output_of (at_first [] I.rest inputs.old) }
     ensures log { I.tells → P.tells → IsRun (command_for words.now) → IsAtRecordsEnd result.status →
         content (P.story plant.new) ≡ log_of (at_first [] I.rest inputs.old) }
-    // That log tells exactly the run's leases.
+    // That log tells exactly the run's leases, and they name the subscriber of each packet that went out by its source
+    // address, its port and its moment, and nobody else. In every state on the way each mapping has a place of its own in
+    // an open lease of its owner, and no two leases share a port at a moment.
     ensures tells { I.tells → P.tells → IsRun (command_for words.now) → IsAtRecordsEnd result.status →
         told_by (content (P.story plant.new)) ≡ Whole (run_of (at_first [] I.rest inputs.old)).state.leases }
+    ensures named { NamesEachSender (run_of (at_first [] I.rest inputs.old)).state.leases (run_of (at_first [] I.rest inputs.old)).items }
+    ensures valid { (records : ℕ) → IsValid (front_run records (at_first [] I.rest inputs.old)).state }
     ensures durable { P.tells → IsRun (command_for words.now) → IsAtRecordsEnd result.status → IsSettled (P.story plant.new) }
     ensures drops { I.tells → IsRun (command_for words.now) → IsAtRecordsEnd result.status →
         result.drops.0 ≡ counts_of (at_first [] I.rest inputs.old) }
