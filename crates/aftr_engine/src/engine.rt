@@ -10,7 +10,7 @@ ghost use Rattle.aftr_engine.specs.lease_log.Told.{told_by};
 ghost use Rattle.aftr_engine.specs.trace_query.Names.{name_of};
 ghost use Rattle.aftr_engine.specs.aftr_engine.Words.{command_for, paths_for, input_count};
 ghost use Rattle.aftr_engine.specs.aftr_engine.Causes.{at_first, IsCommand, IsRun, IsQuery, HasReason, IsFaultless, IsWhole, RefusesWords, RefusesConfig, RefusesLog, IsForConfig, IsForLog, IsForDamage, IsRefusal, EndsWith, IsAtRecordsEnd, Prints, PrintsFault, PrintsOf, IsReported, answer_text, text_of};
-ghost use Rattle.aftr_engine.specs.aftr_engine.Attribution.{NamesEachSender};
+ghost use Rattle.aftr_engine.specs.aftr_engine.Attribution.{NamesEachSender, NamesSenders};
 ghost use Rattle.aftr_engine.specs.aftr_engine.Fronts.{HasCome, front_run};
 ghost use Rattle.aftr_engine.specs.aftr_engine.Reported.{IsReportOf};
 ghost use Rattle.aftr_engine.specs.aftr_engine.Report.{drop_counts};
@@ -59,12 +59,14 @@ pub fn aftr<C: Source, I: Source, P: Plant, R: Sink>(
         sent (P.story plant.new) ≡ sent (P.story plant.old) ++ output_of (at_first [] I.rest inputs.old) }
     ensures log { I.tells → P.tells → IsRun (command_for words.now) → IsAtRecordsEnd result.status →
         content (P.story plant.new) ≡ log_of (at_first [] I.rest inputs.old) }
-    // That log tells exactly the run's leases, and they name the subscriber of each packet that went out by its source
-    // address, its port and its moment, and nobody else. In every state on the way each mapping has a place of its own in
-    // an open lease of its owner, and no two leases share a port at a moment.
+    // That log tells exactly the run's leases. They name the subscriber of each packet that went out by its source address,
+    // its port and its moment, and nobody else; so do those that the log of any first records tells, for their packets.
+    // After any records each mapping has a place of its own in an open lease of its owner, and no two leases share a port
+    // at a moment.
     ensures tells { I.tells → P.tells → IsRun (command_for words.now) → IsAtRecordsEnd result.status →
         told_by (content (P.story plant.new)) ≡ Whole (run_of (at_first [] I.rest inputs.old)).state.leases }
     ensures named { NamesEachSender (run_of (at_first [] I.rest inputs.old)).state.leases (run_of (at_first [] I.rest inputs.old)).items }
+    ensures fronts { (records : ℕ) → NamesSenders (front_run records (at_first [] I.rest inputs.old)) }
     ensures valid { (records : ℕ) → IsValid (front_run records (at_first [] I.rest inputs.old)).state }
     ensures durable { P.tells → IsRun (command_for words.now) → IsAtRecordsEnd result.status → IsSettled (P.story plant.new) }
     ensures drops { I.tells → IsRun (command_for words.now) → IsAtRecordsEnd result.status →

@@ -1,15 +1,16 @@
 use Rattle.std.proofs.Common.{◌≡◌, ◌<◌, [], length, get_or, refl, sym, ap, subst}
 use Rattle.std.specs.Prelude.{Some, None}
 use Rattle.plant_io.specs.Story.{content, sent}
+use Rattle.aftr_engine.specs.aftr_engine.Fronts.{front_run}
 use Rattle.aftr_engine.specs.aftr_engine.Words.{command_for}
 use Rattle.aftr_engine.specs.aftr_engine.Causes.{at_first, IsQuery, IsRun, text_of}
 use Rattle.aftr_engine.specs.declared.words.Command.TheVariants.{Run, Trace, Leases}
-use Rattle.aftr_engine.proofs.Attribution.{names_whole}
+use Rattle.aftr_engine.proofs.Attribution.{names_each, names_whole}
 use Rattle.aftr_engine.proofs.Sending.{gained_none}
 use Rattle.aftr_engine.proofs.StopSteps.{accounted_start}
 use Rattle.aftr_engine.proofs.Reasons.{first_is, first_set, some_input}
 use Rattle.aftr_engine.proofs.Endings.{ended_run, ended_query, ended_words, text_of_run, text_of_trace, text_of_leases, text_of_words}
-use Rattle.aftr_engine.proofs.LogsTold.{told_whole, was_at_end}
+use Rattle.aftr_engine.proofs.LogsTold.{told_front, told_whole, was_at_end}
 use Rattle.aftr_engine.proofs.ValidStates.{valid_front}
 use Rattle.aftr_engine.proofs.engine.aftr.Goals as goal
 use Rattle.aftr_engine.proofs.engine.aftr.Goals.{in-Some-Run, in-Some-Trace, in-Some-Leases, in-None}
@@ -58,6 +59,11 @@ returns-clause-stops g c = λ reads tells. elim c.match-command_of.branch [
 
 pub returns-clause-named : goal.returns-clause-named
 returns-clause-named g c = names_whole (at_first [] g.I.Source.rest c.args.inputs.now)
+
+pub returns-clause-fronts : goal.returns-clause-fronts
+returns-clause-fronts g c = λ records.
+    let input = at_first [] g.I.Source.rest c.args.inputs.now in
+    record { told = told_front (front_run records input).log records input refl; named = names_each records input }
 
 pub returns-clause-valid : goal.returns-clause-valid
 returns-clause-valid g c = λ records. valid_front records (at_first [] g.I.Source.rest c.args.inputs.now)
