@@ -1,5 +1,5 @@
 //! A vector that contracts see as a list.
-ghost use Rattle.std.specs.Prelude.{◌≡◌, ◌<◌, ◌++◌, ◌↔◌, [], ◌∷◌, length, set, IsTrue, IfOk, OnOk, OnErr};
+ghost use Rattle.std.specs.Prelude.{◌≡◌, ◌<◌, ◌++◌, ◌↔◌, [], ◌∷◌, length, map, set, IsTrue, IfOk, OnOk, OnErr};
 ghost use Rattle.std.specs.Fn.{CalledAt};
 ghost use Rattle.std.specs.List.Retain.{IsFiltered};
 
@@ -145,6 +145,21 @@ impl Packets {
         Packets {
             packets: Vec::new(alloc),
         }
+    }
+
+    /// The packets of these bytes. It takes the vector over and needs no further memory.
+    pub fn from_vec(packets: Vec<Vec<u8>>) -> Self
+        ensures { result ≡ map (λ packet. packet.items) packets.items }
+    {
+        Packets { packets }
+    }
+
+    /// The packets' bytes, given back without taking memory.
+    pub fn into_vec(self) -> Vec<Vec<u8>>
+        ensures { map (λ packet. packet.items) result.items ≡ self }
+    {
+        let Packets { packets } = self;
+        packets
     }
 
     /// How many packets there are.
