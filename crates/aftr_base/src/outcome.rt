@@ -98,7 +98,7 @@ impl fmt::Display for Key {
     }
 }
 
-/// A batch of records that a failing disk call cost.
+/// A batch of records that a failing disk call cost. No run gives one.
 #[derive(Clone, Copy, Debug, PartialEq, Eq)]
 pub struct Mark {
     /// The number of the batch's first record, from 0.
@@ -109,7 +109,7 @@ pub struct Mark {
     pub taken: bool,
 }
 
-/// How many records were dropped, by cause, in the order of `DropCause`.
+/// How many records were dropped: a number for each cause, in the order of `DropCause`.
 #[derive(Clone, Copy, Debug, PartialEq, Eq)]
 pub struct DropCounts(pub [u64; 23]);
 
@@ -122,7 +122,7 @@ pub enum Status {
     BadWords,
     /// The configuration has a refused key: the first one.
     BadConfig(Key),
-    /// At this offset of this input no record stands.
+    /// In the input of this number, from 0, no record stands at this offset in bytes, from 0.
     BadInput { input: u8, offset: u64 },
     /// The configuration or an input could not be read.
     ReadFault,
@@ -130,11 +130,11 @@ pub enum Status {
     LogFault,
     /// The packet outlet or the report failed.
     OutFault,
-    /// The log is damaged at this offset.
+    /// The log is damaged: the first record that isn't sound begins at this offset in bytes, from 0.
     LogDamaged(u64),
-    /// The log's next bytes would pass its limit.
+    /// The log ends at `tail`, and `need` bytes more would pass its `limit`, all in bytes. It isn't given.
     LogFull { tail: u64, need: u64, limit: u64 },
-    /// The log has this many bytes already.
+    /// A run was asked for, and the log has this many bytes already.
     AlreadyThere(u64),
     /// Memory ran out.
     NoMemory,
@@ -143,7 +143,10 @@ pub enum Status {
 /// What a call of the program answers.
 #[derive(Debug, Drop)]
 pub struct Outcome {
+    /// How the call ended.
     pub status: Status,
+    /// What failing disk calls cost.
     pub marks: List<Mark>,
+    /// What the run dropped; a query drops nothing.
     pub drops: DropCounts,
 }

@@ -3,24 +3,33 @@
 use crate::list::List;
 use crate::value::{Ip4, Moment, Prefix4, Prefix6, Subscriber};
 
-/// A block of ports at an address, and since and until when it is its owner's.
+/// A block of ports at a public address, and since and until when it is its owner's.
 #[derive(Clone, Copy, Debug, PartialEq, Eq)]
 pub struct LeaseRow {
     pub owner: Subscriber,
     pub addr: Ip4,
+    /// The first port of the block, included.
     pub first: u16,
+    /// The last port of the block, included.
     pub last: u16,
+    /// When the block opened: the first millisecond at which it is its owner's.
     pub since: Moment,
+    /// When the block closed: the last millisecond at which it is its owner's. `None` while it is open.
     pub until: Option<Moment>,
 }
 
-/// The values that a deterministic plan is computed from.
+/// The values that a deterministic plan is computed from (RFC 7422 section 2). No run has a plan.
 #[derive(Debug, Drop)]
 pub struct PlanSpec {
+    /// The length of each subscriber's prefix in bits, at most 128.
     pub subscriber_len: u8,
+    /// How many ports a block has.
     pub block_size: u16,
+    /// How many subscribers share an address.
     pub ratio: u16,
+    /// The prefixes under which the subscribers' lie.
     pub aggregates: List<Prefix6>,
+    /// The public addresses.
     pub pool: List<Prefix4>,
 }
 
@@ -28,6 +37,8 @@ pub struct PlanSpec {
 #[derive(Debug, Drop)]
 pub struct PlanRow {
     pub spec: PlanSpec,
+    /// The first millisecond of its use.
     pub since: Moment,
+    /// The last millisecond of its use. `None` while it is in use.
     pub until: Option<Moment>,
 }

@@ -1,6 +1,7 @@
 //! Addresses, places and moments.
 
-/// Milliseconds, as the records bear them.
+/// Milliseconds since 1970-01-01 00:00 UTC, as the records bear them: IPFIX's observationTimeMilliseconds, which is a
+/// dateTimeMilliseconds (RFC 7011 section 6.1.8).
 #[derive(Clone, Copy, Debug, PartialEq, Eq, PartialOrd, Ord)]
 pub struct Moment(pub u64);
 
@@ -15,22 +16,26 @@ pub struct Ip6(pub u128);
 /// An IPv4 prefix: an address whose bits past the length are zero, and the length.
 #[derive(Clone, Copy, Debug, PartialEq, Eq)]
 pub struct Prefix4 {
+    /// The first address under the prefix.
     pub bits: Ip4,
+    /// How many leading bits the prefix fixes, 0 to 32.
     pub len: u8,
 }
 
 /// An IPv6 prefix: an address whose bits past the length are zero, and the length.
 #[derive(Clone, Copy, Debug, PartialEq, Eq)]
 pub struct Prefix6 {
+    /// The first address under the prefix.
     pub bits: Ip6,
+    /// How many leading bits the prefix fixes, 0 to 128.
     pub len: u8,
 }
 
-/// The prefix of one customer.
+/// One customer, as the IPv6 prefix that its softwires come from.
 #[derive(Clone, Copy, Debug, PartialEq, Eq)]
 pub struct Subscriber(pub Prefix6);
 
-/// A transport that is translated.
+/// A transport protocol: number 6, 17 or 1 in an IPv4 header (RFC 791 section 3.1). Only UDP is translated.
 #[derive(Clone, Copy, Debug, PartialEq, Eq, Hash)]
 pub enum Proto {
     Tcp,
@@ -41,14 +46,18 @@ pub enum Proto {
 /// Where a packet comes from or goes to.
 #[derive(Clone, Copy, Debug, PartialEq, Eq)]
 pub enum Side {
+    /// The customers' side: IPv4 packets in IPv6 ones (RFC 6333).
     Softwire,
+    /// The side of the public IPv4 addresses.
     Public,
 }
 
 /// How a stream of records is spelled.
 #[derive(Clone, Copy, Debug, PartialEq, Eq)]
 pub enum Form {
+    /// Each record behind its length, kind and moment.
     Frames,
+    /// A file of captured packets, which no reader takes.
     Capture,
 }
 
@@ -56,14 +65,18 @@ pub enum Form {
 #[derive(Clone, Copy, Debug, PartialEq, Eq, Hash)]
 pub struct Ext {
     pub addr: Ip4,
+    /// The port or identifier, 0 to 65535.
     pub port: u16,
 }
 
 /// What a mapping is found by: the softwire's source with the transport and the inner place.
 #[derive(Clone, Copy, Debug, PartialEq, Eq, Hash)]
 pub struct InnerKey {
+    /// The source of the IPv6 packets.
     pub softwire: Ip6,
     pub proto: Proto,
+    /// The source of the IPv4 packets inside.
     pub addr: Ip4,
+    /// The source port of the datagrams inside.
     pub port: u16,
 }
