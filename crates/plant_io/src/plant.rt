@@ -5,6 +5,7 @@ ghost use Rattle.plant_io.specs.Story.{Step, wrote, synced, Story, content, emit
 use crate::Failed;
 
 /// A file that is synced and an outlet for packets, under one clock: what stops may leave of both is known together.
+/// Places in the file are counted in bytes, from 0.
 pub trait Plant {
     /// Whether contracts may speak of what it holds.
     ghost tells: { Type 0 };

@@ -1,5 +1,5 @@
 -- What contracts see of the sources and the sink in memory.
-use Rattle.std.specs.Prelude.{ℕ, ◌+◌, ◌-◌, ◌^◌, min, List, take, drop}
+use Rattle.std.specs.Prelude.{ℕ, List, take, drop}
 use Rattle.plant_mem.specs.declared.mem_source.MemSource.{MemSource}
 use Rattle.plant_mem.specs.declared.mem_source.NoFaultSource.{NoFaultSource}
 use Rattle.plant_mem.specs.declared.mem_sink.MemSink.{MemSink}
@@ -42,7 +42,3 @@ sink_calls sink = sink.calls
 
 abbrev pub sink_faults : MemSink → ℕ
 sink_faults sink = sink.failures
-
--- one more, up to the greatest number
-abbrev pub counted : ℕ → ℕ
-counted number = min (number + 1) (2 ^ 64 - 1)

@@ -6,6 +6,7 @@ ghost use Rattle.plant_mem.specs.Disk.{start_of, bytes_now};
 use aftr_base::{List, NoMemory};
 use std::alloc::Global;
 
+/// A file in memory.
 #[derive(Drop)]
 pub struct Disk {
     start: List<u8>,
@@ -13,6 +14,7 @@ pub struct Disk {
 }
 
 impl Disk {
+    /// A file of these bytes. It takes no memory.
     pub fn new(start: List<u8>) -> Self
         ensures start { start_of result ≡ start }
         ensures bytes { bytes_now result ≡ start }
@@ -33,7 +35,7 @@ impl Disk {
         }
     }
 
-    /// Writes over what is there, and past the end. `NoMemory` changes nothing.
+    /// Writes from the byte `at` on, over what is there and past the end. `NoMemory` changes nothing.
     pub fn put(&mut self, alloc: Global, at: usize, bytes: &[u8]) -> Result<(), NoMemory>
         requires { at ≤ length (bytes_now self.old) }
         ensures ok { OnOk result (bytes_now self.new ≡ put at bytes.now (bytes_now self.old)) }

@@ -1,6 +1,6 @@
 // A file and an outlet in memory, of which chosen calls fail.
 ghost use Rattle.std.specs.Prelude.{◌≡◌, ◌↔◌, ◌≤◌, ◌-◌, ◌/◌, [], ◌∷◌, length, take, drop, min, IsTrue, IfOk, OnOk, OnErr};
-ghost use Rattle.plant_io.specs.Causes.{HasCause};
+ghost use Rattle.plant_io.specs.Causes.{HasCause, counted};
 ghost use Rattle.plant_io.specs.Story.{wrote, synced, content, sent, emit_all, IsSettled};
 ghost use Rattle.plant_mem.specs.declared.tape.PlantCall.TheVariants.{Size, ReadAt, WriteAt, Sync, Emit};
 ghost use Rattle.plant_mem.specs.Plants.{mem_story, mem_calls, mem_fail_at, mem_disk_faults, mem_out_faults, IsPlanned, Passes, Fails};
@@ -80,6 +80,7 @@ impl Plant for MemPlant {
         ensures answer { IfOk result (λ size. size ≡ length (content (mem_story self.old))) }
         ensures same { mem_story self.new ≡ mem_story self.old }
         ensures cause { HasCause (mem_disk_faults self.old) (mem_disk_faults self.new) result }
+        ensures fault { OnErr result (mem_disk_faults self.new ≡ counted (mem_disk_faults self.old)) }
         ensures outlet { mem_out_faults self.new ≡ mem_out_faults self.old }
         ensures passed { OnOk result (Passes Size self.old self.new) }
         ensures failed { OnErr result (Fails Size (mem_story self.old) self.old self.new) }
@@ -98,6 +99,7 @@ impl Plant for MemPlant {
         ensures bytes { IfOk result (λ count. take count buf.new ≡ take count (drop at (content (mem_story self.old)))) }
         ensures same { mem_story self.new ≡ mem_story self.old }
         ensures cause { HasCause (mem_disk_faults self.old) (mem_disk_faults self.new) result }
+        ensures fault { OnErr result (mem_disk_faults self.new ≡ counted (mem_disk_faults self.old)) }
         ensures outlet { mem_out_faults self.new ≡ mem_out_faults self.old }
         ensures passed { OnOk result (Passes ReadAt self.old self.new) }
         ensures failed { OnErr result (Fails ReadAt (mem_story self.old) self.old self.new) }
@@ -115,6 +117,7 @@ impl Plant for MemPlant {
         requires { at ≤ length (content (mem_story self.old)) }
         ensures written { OnOk result (mem_story self.new ≡ wrote at bytes.now 0 ∷ mem_story self.old) }
         ensures cause { HasCause (mem_disk_faults self.old) (mem_disk_faults self.new) result }
+        ensures fault { OnErr result (mem_disk_faults self.new ≡ counted (mem_disk_faults self.old)) }
         ensures outlet { mem_out_faults self.new ≡ mem_out_faults self.old }
         ensures passed { OnOk result (Passes WriteAt self.old self.new) }
         ensures failed { OnErr result (let half = length bytes.now / 2 in
@@ -139,6 +142,7 @@ impl Plant for MemPlant {
         ensures durable { OnOk result (mem_story self.new ≡ synced ∷ mem_story self.old) }
         ensures same { OnErr result (mem_story self.new ≡ mem_story self.old) }
         ensures cause { HasCause (mem_disk_faults self.old) (mem_disk_faults self.new) result }
+        ensures fault { OnErr result (mem_disk_faults self.new ≡ counted (mem_disk_faults self.old)) }
         ensures outlet { mem_out_faults self.new ≡ mem_out_faults self.old }
         ensures passed { OnOk result (Passes Sync self.old self.new) }
         ensures failed { OnErr result (Fails Sync (mem_story self.old) self.old self.new) }
@@ -160,6 +164,7 @@ impl Plant for MemPlant {
         ensures all { OnOk result (mem_story self.new ≡ emit_all bytes.now (mem_story self.old)) }
         ensures none { OnErr result (mem_story self.new ≡ mem_story self.old) }
         ensures cause { HasCause (mem_out_faults self.old) (mem_out_faults self.new) result }
+        ensures fault { OnErr result (mem_out_faults self.new ≡ counted (mem_out_faults self.old)) }
         ensures disk { mem_disk_faults self.new ≡ mem_disk_faults self.old }
         ensures passed { OnOk result (Passes Emit self.old self.new) }
         ensures failed { OnErr result (Fails Emit (mem_story self.old) self.old self.new) }

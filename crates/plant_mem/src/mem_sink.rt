@@ -1,8 +1,8 @@
 // Bytes in memory that go out.
 ghost use Rattle.std.specs.Prelude.{◌≡◌, ◌++◌, [], OnOk, OnErr};
 ghost use Rattle.std.specs.List.{Contains};
-ghost use Rattle.plant_io.specs.Causes.{HasCause};
-ghost use Rattle.plant_mem.specs.Sources.{sink_written, sink_fail_at, sink_calls, sink_faults, counted};
+ghost use Rattle.plant_io.specs.Causes.{HasCause, counted};
+ghost use Rattle.plant_mem.specs.Sources.{sink_written, sink_fail_at, sink_calls, sink_faults};
 
 use crate::plan::is_planned;
 use aftr_base::List;
@@ -60,6 +60,7 @@ impl Sink for MemSink {
         ensures numbered { sink_calls self.new ≡ counted (sink_calls self.old) }
         ensures fail_at { sink_fail_at self.new ≡ sink_fail_at self.old }
         ensures no_fault { OnOk result (sink_faults self.new ≡ sink_faults self.old) }
+        ensures fault { OnErr result (sink_faults self.new ≡ counted (sink_faults self.old)) }
     {
         let planned = is_planned(self.fail_at.as_slice(), self.calls);
         self.calls = self.calls.saturating_add(1);

@@ -1,7 +1,7 @@
 // Bytes in memory that come in.
 ghost use Rattle.std.specs.Prelude.{◌≡◌, ◌<◌, ◌≤◌, ◌↔◌, [], length, min, max, IsOk, IsErr, IfOk, OnOk, OnErr};
 ghost use Rattle.std.specs.List.{Contains};
-ghost use Rattle.plant_io.specs.Causes.{HasCause};
+ghost use Rattle.plant_io.specs.Causes.{HasCause, counted};
 ghost use Rattle.plant_io.specs.Source.{TakesNext};
 
 use crate::plan::is_planned;
@@ -25,7 +25,7 @@ pub struct MemSource {
 impl MemSource {
     ghost use Rattle.plant_mem.specs.Sources.{source_taken, source_rest, source_piece, source_fail_at, source_calls, source_faults};
 
-    /// A source of these bytes, of which nothing was taken. A `piece` of 0 counts as 1. It takes no memory.
+    /// A source of these bytes, of which nothing was taken. `piece` is in bytes, and 0 counts as 1. It takes no memory.
     pub fn new(bytes: List<u8>, piece: usize, fail_at: List<u64>) -> Self
         ensures taken { source_taken result ≡ [] }
         ensures rest { source_rest result ≡ bytes }
@@ -46,7 +46,7 @@ impl MemSource {
 }
 
 impl Source for MemSource {
-    ghost use Rattle.plant_mem.specs.Sources.{source_taken, source_rest, source_piece, source_fail_at, source_calls, source_faults, counted};
+    ghost use Rattle.plant_mem.specs.Sources.{source_taken, source_rest, source_piece, source_fail_at, source_calls, source_faults};
 
     ghost tells = { Unit {0} };
 
@@ -71,6 +71,7 @@ impl Source for MemSource {
         ensures fail_at { source_fail_at self.new ≡ source_fail_at self.old }
         ensures piece { source_piece self.new ≡ source_piece self.old }
         ensures no_fault { OnOk result (source_faults self.new ≡ source_faults self.old) }
+        ensures fault { OnErr result (source_faults self.new ≡ counted (source_faults self.old)) }
     {
         let planned = is_planned(self.fail_at.as_slice(), self.calls);
         self.calls = self.calls.saturating_add(1);

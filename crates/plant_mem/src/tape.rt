@@ -1,7 +1,7 @@
 // What a plant in memory keeps of its calls.
 ghost use Rattle.std.specs.Prelude.{◌≡◌, ◌≤◌, ◌-◌, [], ◌∷◌, ◌++◌, length, min, take, drop, OnOk, OnErr};
 ghost use Rattle.plant_io.specs.Story.{wrote, synced, content, sent, emit_all};
-ghost use Rattle.plant_io.specs.Causes.{Rose};
+ghost use Rattle.plant_io.specs.Causes.{Rose, counted};
 ghost use Rattle.plant_mem.specs.declared.tape.PlantCall.TheVariants.{Size, ReadAt, WriteAt, Sync, Emit};
 ghost use Rattle.plant_mem.specs.Tape.{begun};
 
@@ -31,6 +31,7 @@ pub enum PlantCall {
 pub enum Kept {
     /// Bytes that were stored at a place, and how many more of the range weren't.
     Wrote(usize, Vec<u8>, usize),
+    /// The file was synced.
     Synced,
     /// So many bytes left by the outlet.
     Emitted(usize),
@@ -60,6 +61,7 @@ impl Model for Tape {
 }
 
 impl Tape {
+    /// A file of these bytes, synced, and an outlet that has sent nothing. It takes no memory.
     pub fn new(alloc: Global, image: List<u8>) -> Self
         ensures story { result.story ≡ begun image }
         ensures calls { result.calls ≡ [] }
@@ -77,18 +79,21 @@ impl Tape {
         }
     }
 
+    /// The file as a read gives it.
     pub fn content(&self) -> &[u8]
         ensures { result.now ≡ content self.now.story }
     {
         self.disk.bytes()
     }
 
+    /// The bytes that were sent.
     pub fn sent(&self) -> &[u8]
         ensures { result.now ≡ sent self.now.story }
     {
         &self.outlet
     }
 
+    /// The kinds of the calls that were kept, in order.
     pub fn calls(&self) -> &[PlantCall]
         ensures { result.now ≡ self.now.calls }
     {
@@ -99,7 +104,7 @@ impl Tape {
     pub fn fail_disk(&mut self) -> Failed
         ensures rose { Rose self.old.disk_faults self.new.disk_faults }
         ensures later { self.old.disk_faults ≤ self.new.disk_faults }
-        ensures same { self.new ≡ record self.old { disk_faults = self.new.disk_faults } }
+        ensures once { self.new ≡ record self.old { disk_faults = counted self.old.disk_faults } }
     {
         self.disk_count = self.disk_count.saturating_add(1);
         Failed
@@ -109,7 +114,7 @@ impl Tape {
     pub fn fail_out(&mut self) -> Failed
         ensures rose { Rose self.old.out_faults self.new.out_faults }
         ensures later { self.old.out_faults ≤ self.new.out_faults }
-        ensures same { self.new ≡ record self.old { out_faults = self.new.out_faults } }
+        ensures once { self.new ≡ record self.old { out_faults = counted self.old.out_faults } }
     {
         self.out_count = self.out_count.saturating_add(1);
         Failed
@@ -124,7 +129,8 @@ impl Tape {
         Ok(())
     }
 
-    /// Reads from a place: as many bytes as the buffer has room for, unless the file ends before.
+    /// Reads from the byte `at` on and answers how many bytes: as many as the buffer has room for, unless the file ends
+    /// before.
     pub fn copy_at(&self, at: u64, buf: &mut [u8]) -> usize
         ensures within { result ≤ length buf.new }
         ensures count { result ≡ min (length buf.new) (length (content self.now.story) - at) }
@@ -139,7 +145,7 @@ impl Tape {
         count
     }
 
-    /// Stores bytes at a place: a write, of whose range `lost` more bytes aren't stored. `Err` changes nothing.
+    /// Stores bytes from the byte `at` on: a write, of whose range `lost` more bytes aren't stored. `Err` changes nothing.
     pub fn keep_write(&mut self, at: usize, stored: &[u8], lost: usize) -> Result<(), NoMemory>
         requires { at ≤ length (content self.old.story) }
         ensures ok { OnOk result (self.new ≡ record self.old {
