@@ -8,7 +8,8 @@ use std::fs::File;
 use std::test::Fail;
 use std::{env, fs, process};
 
-// A path of this run's own, in the system's folder for temporary files.
+// A path of this run's own, in the system's folder for temporary files. What a test makes there it removes as soon as it
+// is open, so that nothing is left where an assertion fails.
 fn temporary(rt: &HostRuntime, name: &str) -> Result<String, Fail> {
     let folder = env::temp_dir(rt)?;
     let id = process::id(rt.process());
@@ -20,13 +21,13 @@ fn a_source_gives_its_file_in_order(rt: HostRuntime) -> Result<(), Fail> {
     let path = temporary(&rt, "source")?;
     fs::write(&rt, path.as_str(), b"abcde".as_slice())?;
     let mut source = FileSource::open(&rt, Some(path.as_str()));
+    fs::remove_file(&rt, path.as_str())?;
     let mut buf = [0u8; 3];
     assert_eq!(rt; source.read(&mut buf), Ok(3));
     assert_eq!(rt; &buf, b"abc");
     assert_eq!(rt; source.read(&mut buf), Ok(2));
     assert_eq!(rt; &buf, b"dec");
     assert_eq!(rt; source.read(&mut buf), Ok(0));
-    fs::remove_file(&rt, path.as_str())?;
     Ok(())
 }
 
@@ -48,22 +49,27 @@ fn a_source_without_a_file_fails(rt: HostRuntime) -> Result<(), Fail> {
 fn a_sink_writes_all_before_it_answers(rt: HostRuntime) -> Result<(), Fail> {
     let path = temporary(&rt, "sink")?;
     let mut sink = StdSink::new(File::create(&rt, path.as_str())?);
+    let mut closed = StdSink::new(File::open(&rt, path.as_str())?);
+    let mut written = FileSource::open(&rt, Some(path.as_str()));
+    fs::remove_file(&rt, path.as_str())?;
     assert_eq!(rt; sink.write(b"one\n"), Ok(()));
     assert_eq!(rt; sink.write(b""), Ok(()));
     assert_eq!(rt; sink.write(b"two\n"), Ok(()));
-    let written = fs::read(&rt, path.as_str())?;
-    assert_eq!(rt; written.as_slice(), b"one\ntwo\n".as_slice());
-    let mut closed = StdSink::new(File::open(&rt, path.as_str())?);
+    let mut bytes = [0u8; 9];
+    assert_eq!(rt; written.read(&mut bytes), Ok(8));
+    assert_eq!(rt; &bytes, b"one\ntwo\n\0");
     assert_eq!(rt; closed.write(b"three\n"), Err(Failed));
-    fs::remove_file(&rt, path.as_str())?;
     Ok(())
 }
 
 #[test]
-fn a_plant_keeps_its_log_and_empties_its_outlet(rt: HostRuntime) -> Result<(), Fail> {
+fn a_plant_reads_what_it_wrote(rt: HostRuntime) -> Result<(), Fail> {
     let log = temporary(&rt, "log")?;
     let outlet = temporary(&rt, "outlet")?;
     let mut plant = FilePlant::open(&rt, Some(log.as_str()), Some(outlet.as_str()));
+    let mut sent = FileSource::open(&rt, Some(outlet.as_str()));
+    fs::remove_file(&rt, log.as_str())?;
+    fs::remove_file(&rt, outlet.as_str())?;
     assert_eq!(rt; plant.size(), Ok(0));
     assert_eq!(rt; plant.write_at(0, b"record"), Ok(()));
     assert_eq!(rt; plant.write_at(3, b"all over"), Ok(()));
@@ -78,14 +84,27 @@ fn a_plant_keeps_its_log_and_empties_its_outlet(rt: HostRuntime) -> Result<(), F
     assert_eq!(rt; &buf, b"eral");
     assert_eq!(rt; plant.read_at(12, &mut buf), Ok(0));
     assert_eq!(rt; plant.read_at(0, &mut []), Ok(0));
-    let sent = fs::read(&rt, outlet.as_str())?;
-    assert_eq!(rt; sent.as_slice(), b"first second".as_slice());
+    let mut bytes = [0u8; 13];
+    assert_eq!(rt; sent.read(&mut bytes), Ok(12));
+    assert_eq!(rt; &bytes, b"first second\0");
+    Ok(())
+}
 
-    let mut again = FilePlant::open(&rt, Some(log.as_str()), Some(outlet.as_str()));
-    assert_eq!(rt; again.size(), Ok(11));
-    assert_eq!(rt; fs::read(&rt, outlet.as_str())?.len(), 0);
+#[test]
+fn a_plant_keeps_its_log_and_empties_its_outlet(rt: HostRuntime) -> Result<(), Fail> {
+    let log = temporary(&rt, "kept")?;
+    let outlet = temporary(&rt, "emptied")?;
+    fs::write(&rt, log.as_str(), b"record".as_slice())?;
+    fs::write(&rt, outlet.as_str(), b"sent".as_slice())?;
+    let mut plant = FilePlant::open(&rt, Some(log.as_str()), Some(outlet.as_str()));
+    let mut sent = FileSource::open(&rt, Some(outlet.as_str()));
     fs::remove_file(&rt, log.as_str())?;
     fs::remove_file(&rt, outlet.as_str())?;
+    let mut buf = [0u8; 7];
+    assert_eq!(rt; plant.size(), Ok(6));
+    assert_eq!(rt; plant.read_at(0, &mut buf), Ok(6));
+    assert_eq!(rt; &buf, b"record\0");
+    assert_eq!(rt; sent.read(&mut buf), Ok(0));
     Ok(())
 }
 
