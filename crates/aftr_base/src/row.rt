@@ -1,4 +1,6 @@
 //! Rows of the lease table and of the plan table.
+ghost use Rattle.std.specs.Prelude.{◌≡◌};
+ghost use Rattle.aftr_base.specs.Row.{overlaps};
 
 use crate::list::List;
 use crate::value::{Ip4, Moment, Prefix4, Prefix6, Subscriber};
@@ -16,6 +18,16 @@ pub struct LeaseRow {
     pub since: Moment,
     /// When the block closed: the last millisecond at which it is its owner's. `None` while it is open.
     pub until: Option<Moment>,
+}
+
+impl LeaseRow {
+    /// Whether the block is at the address and shares a port with those from first to last, both included. It doesn't
+    /// matter whether the lease is open.
+    pub fn overlaps(&self, addr: Ip4, first: u16, last: u16) -> bool
+        ensures { result ≡ overlaps self.now addr first last }
+    {
+        self.addr.0 == addr.0 && self.first <= last && first <= self.last
+    }
 }
 
 /// The values that a deterministic plan is computed from (RFC 7422 section 2). No run has a plan.

@@ -1,4 +1,6 @@
 //! Addresses, places and moments.
+ghost use Rattle.std.specs.Prelude.{◌≡◌};
+ghost use Rattle.aftr_base.specs.Value.{subscriber_eq};
 
 /// Milliseconds since 1970-01-01 00:00 UTC, as the records bear them: IPFIX's observationTimeMilliseconds, which is a
 /// dateTimeMilliseconds (RFC 7011 section 6.1.8).
@@ -31,9 +33,18 @@ pub struct Prefix6 {
     pub len: u8,
 }
 
-/// One customer, as the IPv6 prefix that its softwires come from.
+/// A subscriber: the IPv6 prefix that its softwires come from.
 #[derive(Clone, Copy, Debug, PartialEq, Eq)]
 pub struct Subscriber(pub Prefix6);
+
+impl Subscriber {
+    /// Whether the other is the same one: the same bits and the same length.
+    pub fn is(self, other: Subscriber) -> bool
+        ensures { result ≡ subscriber_eq self other }
+    {
+        self.0.bits.0 == other.0.bits.0 && self.0.len == other.0.len
+    }
+}
 
 /// A transport protocol: number 6, 17 or 1 in an IPv4 header (RFC 791 section 3.1). Only UDP is translated.
 #[derive(Clone, Copy, Debug, PartialEq, Eq, Hash)]
@@ -46,7 +57,7 @@ pub enum Proto {
 /// Where a packet comes from or goes to.
 #[derive(Clone, Copy, Debug, PartialEq, Eq)]
 pub enum Side {
-    /// The customers' side: IPv4 packets in IPv6 ones (RFC 6333).
+    /// The subscribers' side: IPv4 packets in IPv6 ones (RFC 6333).
     Softwire,
     /// The side of the public IPv4 addresses.
     Public,

@@ -102,7 +102,7 @@ impl Table {
     {
         let mut count = 0u64;
         for row in &self.rows {
-            if is_same_subscriber(owner, row.owner) {
+            if owner.is(row.owner) {
                 count = count.saturating_add(row.peers.len() as u64);
             }
         }
@@ -205,10 +205,4 @@ fn number(proto: Proto) -> u8
         Proto::Udp => 17,
         Proto::Icmp => 1,
     }
-}
-
-fn is_same_subscriber(a: Subscriber, b: Subscriber) -> bool
-    ensures { result ≡ subscriber_eq a b }
-{
-    a.0.bits.0 == b.0.bits.0 && a.0.len == b.0.len
 }

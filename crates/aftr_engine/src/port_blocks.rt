@@ -135,7 +135,7 @@ impl Blocks {
         ensures { result ≡ is_free config.now self.now owner now.0 addr first }
     {
         let last = last_port(config, first);
-        self.leases.iter().all(|l| !is_overlapping(l, addr, first, last)
+        self.leases.iter().all(|l| !l.overlaps(addr, first, last)
             || has_ended_for(config, owner, now, l))
     }
 
@@ -192,7 +192,7 @@ pub fn opened(config: &Config, owner: Subscriber, now: Moment, addr: Ip4, first:
 pub(crate) fn is_open_of(owner: Subscriber, lease: &LeaseRow) -> bool
     ensures { result ≡ (is_open lease.now && subscriber_eq owner lease.now.owner) }
 {
-    lease.until.is_none() && is_same_subscriber(owner, lease.owner)
+    lease.until.is_none() && owner.is(lease.owner)
 }
 
 /// Whether a lease is open and no row has its place in its range.
@@ -210,14 +210,8 @@ fn has_ended_for(config: &Config, owner: Subscriber, now: Moment, lease: &LeaseR
         // An end may be any moment, so nothing is added to it.
         Some(until) => until.0 <= now.0
             && (now.0 - until.0 >= config.hold_ms
-                || is_same_subscriber(owner, lease.owner) && until.0 < now.0),
+                || owner.is(lease.owner) && until.0 < now.0),
     }
-}
-
-fn is_overlapping(lease: &LeaseRow, addr: Ip4, first: u16, last: u16) -> bool
-    ensures { result ≡ overlaps lease.now addr first last }
-{
-    lease.addr.0 == addr.0 && lease.first <= last && first <= lease.last
 }
 
 fn last_port(config: &Config, first: u16) -> u16
@@ -234,10 +228,4 @@ fn last_address(prefix: Prefix4) -> u32
 {
     let size = 1u32 << (32 - prefix.len);
     prefix.bits.0 + (size - 1)
-}
-
-fn is_same_subscriber(a: Subscriber, b: Subscriber) -> bool
-    ensures { result ≡ subscriber_eq a b }
-{
-    a.0.bits.0 == b.0.bits.0 && a.0.len == b.0.len
 }

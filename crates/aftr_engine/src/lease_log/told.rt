@@ -199,10 +199,7 @@ fn is_free(leases: &[LeaseRow], block: LeaseRow) -> bool
 fn is_in_the_way(lease: &LeaseRow, block: LeaseRow) -> bool
     ensures { result ≡ (is_open lease.now && overlaps lease.now block.addr block.first block.last) }
 {
-    lease.until.is_none()
-        && lease.addr.0 == block.addr.0
-        && lease.first <= block.last
-        && block.first <= lease.last
+    lease.until.is_none() && lease.overlaps(block.addr, block.first, block.last)
 }
 
 /// Whether the length is one, and the bits past it are zero.
@@ -230,8 +227,7 @@ fn is_lease_of(block: LeaseRow, lease: &LeaseRow) -> bool
     ensures { result ≡ is_lease_of block lease.now }
 {
     lease.until.is_none()
-        && block.owner.0.bits.0 == lease.owner.0.bits.0
-        && block.owner.0.len == lease.owner.0.len
+        && block.owner.is(lease.owner)
         && block.addr.0 == lease.addr.0
         && block.first == lease.first
         && block.last == lease.last
