@@ -114,20 +114,20 @@ refuses_log C P config log c NoMemory told some why = tt
 run_is_no_query : (command : Option Command) → command ≡ Some Run → IsQuery command → ⊥
 run_is_no_query command is query = subst IsQuery is query
 
-pub ended_run : (C I P : Type 0) (command : Option Command) (config input : List ℕ) (before after : Story) (c : Counts) (drops : List ℕ) (was : Status)
+pub ended_run : (C I P : Type 0) (command : Option Command) (config input left : List ℕ) (before after : Story) (c : Counts) (drops : List ℕ) (was : Status)
     → command ≡ Some Run
     → (I → P → IsAtRecordsEnd was → sent after ≡ sent before ++ output_of input)
     → (I → P → IsAtRecordsEnd was → content after ≡ log_of input)
     → (I → IsAtRecordsEnd was → drops ≡ counts_of input)
-    → (I → P → HasCome input before after drops was)
+    → (I → P → HasCome input left before after drops was)
     → RanFor C config P (content before) c was
     → (I → EndsWith (frames_of input).stop was)
     → (P → IsRefusal was → after ≡ before)
     → (P → IsAtRecordsEnd was → IsSettled after)
     → (P → was ≡ ReadFault → (Rose c.input.before c.input.after → ⊥) → after ≡ before)
     → (IsRefusal was → drops ≡ drop_counts [])
-    → HasEnded C I P command config input before after c drops was
-ended_run C I P command config input before after c drops was is packets leases counts come why ends kept durable unbegun uncounted =
+    → HasEnded C I P command config input left before after c drops was
+ended_run C I P command config input left before after c drops was is packets leases counts come why ends kept durable unbegun uncounted =
     let log = content before in
     let runs : IsRun command = subst IsRun (sym is) tt in
     record {
@@ -213,10 +213,10 @@ asked_for_log log disk disk' (LogFull tail need limit) why = tt
 asked_for_log log disk disk' (AlreadyThere size) why = absurd why
 asked_for_log log disk disk' NoMemory why = tt
 
-pub ended_query : (C I P : Type 0) (command : Option Command) (config input : List ℕ) (before after : Story) (c : Counts) (drops : List ℕ) (was : Status)
+pub ended_query : (C I P : Type 0) (command : Option Command) (config input left : List ℕ) (before after : Story) (c : Counts) (drops : List ℕ) (was : Status)
     → IsQuery command → (P → IsForDamage (told_by (content before)) was) → QueryReason c.disk.before c.disk.after was → (P → after ≡ before)
-    → drops ≡ drop_counts [] → HasEnded C I P command config input before after c drops was
-ended_query C I P command config input before after c drops was query damage why same none =
+    → drops ≡ drop_counts [] → HasEnded C I P command config input left before after c drops was
+ended_query C I P command config input left before after c drops was query damage why same none =
     let runs_not = query_is_no_run command query in
     record {
       packets = λ reads tells runs end. absurd (runs_not runs);
@@ -256,9 +256,9 @@ text_of_leases I P command input file t a was is told =
 
 -- ---- words that are no command
 
-pub ended_words : (C I P : Type 0) (command : Option Command) (config input : List ℕ) (before after : Story) (c : Counts) (drops : List ℕ) (was : Status)
-    → command ≡ None → was ≡ BadWords → after ≡ before → drops ≡ drop_counts [] → HasEnded C I P command config input before after c drops was
-ended_words C I P command config input before after c drops was no_command bad same none =
+pub ended_words : (C I P : Type 0) (command : Option Command) (config input left : List ℕ) (before after : Story) (c : Counts) (drops : List ℕ) (was : Status)
+    → command ≡ None → was ≡ BadWords → after ≡ before → drops ≡ drop_counts [] → HasEnded C I P command config input left before after c drops was
+ended_words C I P command config input left before after c drops was no_command bad same none =
     let runs_not : IsRun command → ⊥ = λ runs. subst IsRun no_command runs in
     rw bad (record {
       packets = λ reads tells runs end. absurd (runs_not runs);

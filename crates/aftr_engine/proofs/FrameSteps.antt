@@ -1,7 +1,7 @@
 -- How the records of an input follow one another, and what the bytes behind a record change: nothing.
 use Rattle.std.proofs.Common.{◌≡◌, ℕ, zero, suc, ◌+◌, ◌-◌, ◌≤◌, ◌==◌, Bool, true, false, not, ◌&&◌, ◌||◌, nat_le, List, [], ◌∷◌, ◌++◌, length, drop, take, slice_range, Option, Some, None, option_map, if◌then◌else◌, ◌⊎◌, inl, inr, refl, sym, ap, ◌∙◌, arith}
 use Rattle.std.proofs.lemmas.Bool.Decides.{nat_tests}
-use Rattle.std.proofs.lemmas.List.{append-nil, drop-append-le, take-append-le, length-drop, length-append, get_or_append_left}
+use Rattle.std.proofs.lemmas.List.{append-nil, drop-append-le, drop_at, take-append-le, take-append-drop, length-drop, length-append, length-take-le, get_or_append_left}
 use Rattle.std.specs.Int.{w32, w64, from_be_bytes}
 use Rattle.aftr_base.specs.Bytes.{u8_at, u32_at, u64_at}
 use Rattle.aftr_base.specs.Value.{is_within, moment}
@@ -111,6 +111,24 @@ event_front at bytes rest long within =
     (get_or_append_left bytes rest 0 4 (omega arith))
     (ap (from_be_bytes w64) (range_front 5 13 bytes rest (omega arith) (omega arith)))
     (ap (λ (n : ℕ). slice_range (bytes ++ rest) 13 (4 + n)) len ∙ range_front 13 (frame_len bytes) bytes rest long within)
+
+-- a record stands at the front of its own bytes, whatever comes behind them
+pub record_alone : (at : ℕ) (left tail : List ℕ) (e : Event) → event_at at left ≡ Some e
+    → frames_from at (take (frame_len left) left ++ tail) ≡ with_event e (frames_from (at + frame_len left) tail)
+record_alone at left tail e is =
+    let n : ℕ = frame_len left in
+    let takes = event_takes at left e is in
+    let front : List ℕ = take n left in
+    let long : length front ≡ n = length-take-le n left takes.1 in
+    let whole : front ++ drop n left ≡ left = take-append-drop n left in
+    let len : frame_len front ≡ n = sym (ap (λ (m : ℕ). 4 + m) (u32_front front (drop n left) (omega (arith, takes.0, long)))) ∙ ap frame_len whole in
+    let here : event_at at front ≡ Some e =
+    sym (event_front at front (drop n left) (omega (arith, takes.0, len)) (omega (arith, long, len))) ∙ ap (event_at at) whole ∙ is in
+    let there : event_at at (front ++ tail) ≡ Some e = event_front at front tail (omega (arith, takes.0, len)) (omega (arith, long, len)) ∙ here in
+    let same : frame_len (front ++ tail) ≡ n = ap (λ (m : ℕ). 4 + m) (u32_front front tail (omega (arith, takes.0, long))) ∙ len in
+    next_record at (front ++ tail) e there
+    ∙ ap (λ (m : ℕ). with_event e (frames_from (at + m) (drop m (front ++ tail)))) same
+    ∙ ap (λ (l : List ℕ). with_event e (frames_from (at + n) l)) (drop_at front tail n long)
 
 -- the record at the front of the bytes at hand is the next of all that are left
 pub takes_record : (at at' : ℕ) (bytes rest left window : List ℕ) (head : Head) (e : Event) → IsHead at bytes head → at ≡ at' → bytes ++ rest ≡ left

@@ -3,7 +3,7 @@ use Rattle.std.proofs.Common.{◌≡◌, inl, inr, ℕ, ◌+◌, ◌≤◌, ◌<
 use Rattle.std.specs.Prelude.{None, option_to_list}
 use Rattle.std.proofs.lemmas.Bool.{cases_lt}
 use Rattle.std.proofs.lemmas.Grind.{flat_map-append}
-use Rattle.std.proofs.lemmas.List.{append-nil, take_at, take_all, take-append-le}
+use Rattle.std.proofs.lemmas.List.{append-nil, take_at, take_all, take-append-drop, take-append-le}
 use Rattle.std.proofs.Math.Seq.{take-append-add}
 use Rattle.plant_io.specs.Sink.{GainsPart}
 use Rattle.aftr_base.specs.declared.event.Event.{Event}
@@ -11,7 +11,7 @@ use Rattle.aftr_engine.specs.declared.link_records.Next.TheVariants.{Got}
 use Rattle.aftr_engine.specs.declared.tally.Tally.{Tally}
 use Rattle.aftr_engine.specs.declared.xlate_core.Item.{Item}
 use Rattle.aftr_engine.specs.cfg_text.Defaults.{defaults}
-use Rattle.aftr_engine.specs.link_records.Frames.{Input, Stop, AtEnd, BadAt, stop_at, frames_of, frames_from, frame_len, event_at, input_limit}
+use Rattle.aftr_engine.specs.link_records.Frames.{Input, Stop, AtEnd, BadAt, stop_at, frames_of, frames_from, frame_len, event_at, input_limit, with_event}
 use Rattle.aftr_engine.specs.link_records.Reader.{Reads}
 use Rattle.aftr_engine.specs.xlate_core.State.{State, Step}
 use Rattle.aftr_engine.specs.xlate_core.Step.{step}
@@ -24,7 +24,7 @@ use Rattle.aftr_engine.specs.aftr_engine.Progress.{HasRun, HasSent, HasRead, wit
 use Rattle.aftr_engine.specs.session.Begun.{TalliesAs}
 use Rattle.aftr_engine.specs.session.UnderWay.{IsUnderWay}
 use Rattle.aftr_engine.proofs.Counts.{counts_fit}
-use Rattle.aftr_engine.proofs.FrameSteps.{next_record, no_record}
+use Rattle.aftr_engine.proofs.FrameSteps.{no_record, record_alone}
 use Rattle.aftr_engine.proofs.Runs.{run_push, items_front, short_log, short_run}
 
 -- ---- at the start
@@ -35,7 +35,7 @@ pub begun : (I P : Type 0) (input left past now log : List ℕ) (offset : ℕ) (
 begun I P input left past now log offset state size t all first here none zero same empty = record {
   seen = [];
   run = record { reaches = here; seen_all = zero.records; sent_all = zero.sent; counts = zero.drops };
-  read = λ tells. ap (λ (l : List ℕ). frames_from 0 l) (sym all) ∙ ap (λ (n : ℕ). frames_from n left) (sym first);
+  read = λ tells. record { past = []; whole = sym all; next = λ tail. ap (λ (n : ℕ). frames_from n tail) (sym first) };
   done = λ tells. record { packets = same tells ∙ sym (append-nil past); leases = empty tells };
   stands = λ tells. none ∙ ap length (sym (empty tells));
   few = omega arith;
@@ -48,12 +48,21 @@ begun I P input left past now log offset state size t all first here none zero s
 pub read_on : (input left left' : List ℕ) (offset offset' : ℕ) (seen : List Event) (e : Event)
     → HasRead seen input offset left → Reads offset left offset' left' (Got e) → HasRead (seen ++ e ∷ []) input offset' left'
 read_on input left left' offset offset' seen e before got =
-    let next : frames_from offset left ≡ record (frames_from offset' left') { events = e ∷ (frames_from offset' left').events } =
-    next_record offset left e got.0
-    ∙ ap (λ (l : List ℕ). record (frames_from (offset + frame_len left) l) { events = e ∷ (frames_from (offset + frame_len left) l).events }) (sym got.1)
-    ∙ ap (λ (n : ℕ). record (frames_from n left') { events = e ∷ (frames_from n left').events }) (sym got.2) in
-    before ∙ ap (with_events seen) next
-    ∙ ap (λ (l : List Event). let i : Input = record { events = l; stop = (frames_from offset' left').stop } in i) (sym (append_assoc seen (e ∷ []) (frames_from offset' left').events))
+    let front : List ℕ = take (frame_len left) left in
+    let whole : front ++ left' ≡ left = ap (λ (l : List ℕ). front ++ l) got.1 ∙ take-append-drop (frame_len left) left in
+    record {
+      past = before.past ++ front;
+      whole = before.whole ∙ ap (λ (l : List ℕ). before.past ++ l) (sym whole) ∙ sym (append_assoc before.past front left');
+      next = λ tail.
+          ap frames_of (append_assoc before.past front tail) ∙ before.next (front ++ tail)
+          ∙ ap (with_events seen) (record_alone offset left tail e got.0)
+          ∙ ap (λ (n : ℕ). with_events seen (with_event e (frames_from n tail))) (sym got.2)
+          ∙ ap (λ (l : List Event). let i : Input = record { events = l; stop = (frames_from offset' tail).stop } in i) (sym (append_assoc seen (e ∷ []) (frames_from offset' tail).events));
+    }
+
+-- the records of all the input
+pub whole_read : (input left : List ℕ) (offset : ℕ) (seen : List Event) → HasRead seen input offset left → frames_of input ≡ with_events seen (frames_from offset left)
+whole_read input left offset seen read = ap frames_of read.whole ∙ read.next left
 
 ran_on : (seen : List Event) (e : Event) (s s' : State) (t t' : Tally)
     → HasRun seen s t.records t.sent t.drops.0 → s' ≡ (step s e).state → HasCounted (step s e) t t' → HasRun (seen ++ e ∷ []) s' t'.records t'.sent t'.drops.0
@@ -129,7 +138,7 @@ has_room I P input left past now log offset s size t way = omega (arith, way.sma
 pub all_seen : (input left : List ℕ) (offset : ℕ) (seen : List Event) (stop : Stop) → HasRead seen input offset left → frames_from offset left ≡ record { events = []; stop = stop }
     → ((frames_of input).events ≡ seen) × ((frames_of input).stop ≡ stop)
 all_seen input left offset seen stop read none =
-    let whole : frames_of input ≡ record { events = seen ++ []; stop = stop } = read ∙ ap (with_events seen) none in
+    let whole : frames_of input ≡ record { events = seen ++ []; stop = stop } = whole_read input left offset seen read ∙ ap (with_events seen) none in
     (ap (λ (i : Input). i.events) whole ∙ append-nil seen, ap (λ (i : Input). i.stop) whole)
 
 pub at_end : (left : List ℕ) (offset : ℕ) → left ≡ [] → frames_from offset left ≡ record { events = []; stop = AtEnd }
@@ -168,7 +177,7 @@ pub part_sent : (input left past now log : List ℕ) (offset : ℕ) (seen : List
     → GainsPart (output_of input) past now
 part_sent input left past now log offset seen read done =
     let rest = (frames_from offset left).events in
-    let split = front_of input seen rest (ap (λ (i : Input). i.events) read) in
+    let split = front_of input seen rest (ap (λ (i : Input). i.events) (whole_read input left offset seen read)) in
     let front = output (first_run seen).items in
     (length front, done.packets ∙ ap (λ (l : List ℕ). past ++ l) (sym (take_at front (output (run (first_run seen).state rest).items) (length front) refl) ∙ ap (take (length front)) (sym split)))
 
@@ -185,7 +194,7 @@ pub part_within : (input left left' past now now' log : List ℕ) (offset offset
 part_within input left left' past now now' log offset offset' seen e s read got here done (n, gained) =
     let rest = (frames_from offset' left').events in
     let after = read_on input left left' offset offset' seen e read got in
-    let whole : (frames_of input).events ≡ seen ++ (e ∷ rest) = ap (λ (i : Input). i.events) after ∙ append_assoc seen (e ∷ []) rest in
+    let whole : (frames_of input).events ≡ seen ++ (e ∷ rest) = ap (λ (i : Input). i.events) (whole_read input left' offset' (seen ++ e ∷ []) after) ∙ append_assoc seen (e ∷ []) rest in
     let split = front_of input seen (e ∷ rest) whole in
     let front = output (first_run seen).items in
     let here_step : step s e ≡ step (first_run seen).state e = ap (λ (x : State). step x e) here in

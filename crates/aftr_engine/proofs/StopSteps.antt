@@ -23,7 +23,7 @@ use Rattle.aftr_engine.specs.aftr_engine.Stops.{IsAccounted, AccountsFor}
 use Rattle.aftr_engine.specs.declared.tally.Tally.{Tally}
 use Rattle.aftr_engine.specs.session.UnderWay.{IsUnderWay}
 use Rattle.aftr_engine.proofs.Runs.{run_push}
-use Rattle.aftr_engine.proofs.RunSteps.{read_on}
+use Rattle.aftr_engine.proofs.RunSteps.{read_on, whole_read}
 
 -- ---- records are appended to a settled file
 
@@ -145,8 +145,8 @@ accounted_on first middle last input left left' offset offset' seen e s read got
     let events = (frames_of input).events in
     let rest = (frames_from offset left).events in
     let rest' = (frames_from offset' left').events in
-    let whole : events ≡ seen ++ rest = ap (λ (i : Input). i.events) read in
-    let whole' : events ≡ (seen ++ e ∷ []) ++ rest' = ap (λ (i : Input). i.events) (read_on input left left' offset offset' seen e read got) in
+    let whole : events ≡ seen ++ rest = ap (λ (i : Input). i.events) (whole_read input left offset seen read) in
+    let whole' : events ≡ (seen ++ e ∷ []) ++ rest' = ap (λ (i : Input). i.events) (whole_read input left' offset' (seen ++ e ∷ []) (read_on input left left' offset offset' seen e read got)) in
     let first_part : seen ≡ take (length seen) events = sym (front_seen seen rest) ∙ ap (take (length seen)) (sym whole) in
     let next_part : seen ++ e ∷ [] ≡ take (length (seen ++ e ∷ [])) events = sym (front_seen (seen ++ e ∷ []) rest') ∙ ap (take (length (seen ++ e ∷ []))) (sym whole') in
     goes_on first middle last (AccountsFor input (sent first)) before

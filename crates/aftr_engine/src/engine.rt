@@ -128,7 +128,7 @@ pub fn aftr<C: Source, I: Source, P: Plant, R: Sink>(
     // A status other than Ok prints its one line. Where the report fails, it has a first part of its text, and all else is
     // as under the status whose text it was.
     ensures fault { R.tells → PrintsFault (R.written report.old) (R.written report.new) result.status }
-    ensures reported { IsReportOf C.tells I.tells P.tells R.tells (command_for words.now) (C.rest cfg.old) (at_first [] I.rest inputs.old)
+    ensures reported { IsReportOf C.tells I.tells P.tells R.tells (command_for words.now) (C.rest cfg.old) (at_first [] I.rest inputs.old) (at_first [] I.rest inputs.new)
         (P.story plant.old) (P.story plant.new) (R.written report.old) (R.written report.new)
         (counts_between C.faults cfg.old cfg.new I.faults inputs.old inputs.new P.disk_faults P.out_faults plant.old plant.new R.faults report.old report.new)
         result.drops.0 result.status }
@@ -244,7 +244,7 @@ fn run<C: Source, I: Source, P: Plant>(
     ensures log { I.tells → P.tells → IsAtRecordsEnd result.status → content (P.story plant.new) ≡ log_of (I.rest input.old) }
     ensures counts { I.tells → IsAtRecordsEnd result.status → RunTallies (I.rest input.old) result.tally }
     ensures answer { result.answer ≡ Answer.Summary }
-    ensures came { I.tells → P.tells → HasCome (I.rest input.old) (P.story plant.old) (P.story plant.new) result.tally.drops.0 result.status }
+    ensures came { I.tells → P.tells → HasCome (I.rest input.old) (I.rest input.new) (P.story plant.old) (P.story plant.new) result.tally.drops.0 result.status }
     ensures stops { I.tells → P.tells → StopsLeave (P.story plant.old) (P.story plant.new) (AccountsFor (I.rest input.old) (sent (P.story plant.old))) }
     ensures part { I.tells → P.tells → GainsPart (output_of (I.rest input.old)) (sent (P.story plant.old)) (sent (P.story plant.new)) }
     ensures reason { RunReason C.tells (C.rest cfg.old) P.tells (content (P.story plant.old)) (C.faults cfg.old) (C.faults cfg.new) (I.faults input.old) (I.faults input.new)

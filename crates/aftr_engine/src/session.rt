@@ -73,7 +73,7 @@ impl Session {
         ensures stops { I.tells → P.tells → StopsLeave (P.story plant.old) (P.story plant.new) (AccountsFor (I.rest input.old) (sent (P.story plant.old))) }
         ensures durable { P.tells → IsAtRecordsEnd result → IsSettled (P.story plant.new) }
         ensures counts { I.tells → IsAtRecordsEnd result → HasTallied (I.rest input.old) self.new }
-        ensures came { I.tells → P.tells → HasCome (I.rest input.old) (P.story plant.old) (P.story plant.new) (tally_of self.new).drops.0 result }
+        ensures came { I.tells → P.tells → HasCome (I.rest input.old) (I.rest input.new) (P.story plant.old) (P.story plant.new) (tally_of self.new).drops.0 result }
 
         ensures cause { StopsFor (I.faults input.old) (I.faults input.new) (P.disk_faults plant.old) (P.disk_faults plant.new)
             (P.out_faults plant.old) (P.out_faults plant.new) result }

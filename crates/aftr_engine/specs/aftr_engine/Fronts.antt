@@ -1,5 +1,5 @@
 -- How far a run came that ended early.
-use Rattle.std.specs.Prelude.{◌≡◌, ◌≤◌, ◌<◌, ◌+◌, ℕ, List, ◌++◌, length, take}
+use Rattle.std.specs.Prelude.{◌≡◌, ◌≤◌, ◌<◌, ◌+◌, ◌-◌, ℕ, List, ◌++◌, length, take}
 use Rattle.plant_io.specs.Story.{Story, content, sent}
 use Rattle.aftr_base.specs.declared.outcome.Status.{Status}
 use Rattle.aftr_base.specs.declared.outcome.Status.TheVariants.{ReadFault, LogFault, OutFault, NoMemory}
@@ -32,10 +32,15 @@ pub record IsSendingNext (n : ℕ) (input : List ℕ) (before after : Story) (dr
   pub leases : content after ≡ content before ++ (front_run (n + 1) input).log
   pub counts : drops ≡ drop_counts (front_run n input).drops
 
--- How far a run came that ends so, where that is before the end of its records. Of a log that failed `stops` says what it holds.
-abbrev pub HasCome : List ℕ → Story → Story → List ℕ → Status → Type 0
-HasCome input before after drops ReadFault = (n : ℕ) × HasTreatedFirst n input before after drops
-HasCome input before after drops NoMemory = (n : ℕ) × HasTreatedFirst n input before after drops
-HasCome input before after drops LogFault = (n : ℕ) × HasSentFirst n input before after drops
-HasCome input before after drops OutFault = (n : ℕ) × IsSendingNext n input before after drops
-HasCome input before after drops other = Unit {0}
+-- the bytes that were taken of an input, where these are left
+abbrev pub taken_of : List ℕ → List ℕ → List ℕ
+taken_of input left = take (length input - length left) input
+
+-- How far a run came that ends so, where that is before the end of its records. Where a read failed, these are all whole records
+-- in the bytes that were taken. Of a log that failed `stops` says what it holds.
+abbrev pub HasCome : List ℕ → List ℕ → Story → Story → List ℕ → Status → Type 0
+HasCome input left before after drops ReadFault = HasTreatedFirst (length (frames_of (taken_of input left)).events) input before after drops
+HasCome input left before after drops NoMemory = (n : ℕ) × HasTreatedFirst n input before after drops
+HasCome input left before after drops LogFault = (n : ℕ) × HasSentFirst n input before after drops
+HasCome input left before after drops OutFault = (n : ℕ) × IsSendingNext n input before after drops
+HasCome input left before after drops other = Unit {0}

@@ -23,6 +23,9 @@ pub record HasSent (seen : List Event) (sent_before sent_after log : List ℕ) :
   pub packets : sent_after ≡ sent_before ++ output (first_run seen).items
   pub leases : log ≡ (first_run seen).log
 
--- the records are those before this offset of the input, where these bytes are left
-abbrev pub HasRead : List Event → List ℕ → ℕ → List ℕ → Type 0
-HasRead seen input offset left = frames_of input ≡ with_events seen (frames_from offset left)
+-- The records are those before this offset of the input, where these bytes are left: the bytes before it hold these records,
+-- whatever comes behind them.
+pub record HasRead (seen : List Event) (input : List ℕ) (offset : ℕ) (left : List ℕ) : Type 0 where
+  pub past : List ℕ
+  pub whole : input ≡ past ++ left
+  pub next : (tail : List ℕ) → frames_of (past ++ tail) ≡ with_events seen (frames_from offset tail)

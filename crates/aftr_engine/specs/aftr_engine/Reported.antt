@@ -26,13 +26,13 @@ but_report c = record {
   report = record { before = 0; after = 0 };
 }
 
--- All that a command has done that ends so, but for its report. Each fact asks for the flags of the objects that it looks at.
-pub record HasEnded (config_tells input_tells plant_tells : Type 0) (command : Option Command) (config input : List ℕ) (before after : Story) (c : Counts) (drops : List ℕ) (status : Status) : Type 0 where
+-- All that a command has done that ends so, where these bytes of its input are left, but for its report. Each fact asks for the flags of the objects that it looks at.
+pub record HasEnded (config_tells input_tells plant_tells : Type 0) (command : Option Command) (config input left : List ℕ) (before after : Story) (c : Counts) (drops : List ℕ) (status : Status) : Type 0 where
   -- of a run
   pub packets : input_tells → plant_tells → IsRun command → IsAtRecordsEnd status → sent after ≡ sent before ++ output_of input
   pub leases : input_tells → plant_tells → IsRun command → IsAtRecordsEnd status → content after ≡ log_of input
   pub counts : input_tells → IsRun command → IsAtRecordsEnd status → drops ≡ counts_of input
-  pub front : input_tells → plant_tells → IsRun command → HasCome input before after drops status
+  pub front : input_tells → plant_tells → IsRun command → HasCome input left before after drops status
   pub durable : plant_tells → IsRun command → IsAtRecordsEnd status → IsSettled after
   pub unbegun : plant_tells → IsRun command → status ≡ ReadFault → ¬ HasRisen c.input → after ≡ before
   pub whole : config_tells → input_tells → plant_tells → IsRun command → config ≡ [] → content before ≡ [] → (frames_of input).stop ≡ AtEnd → IsFaultless c → IsWhole status
@@ -70,8 +70,8 @@ PrintsPart input_tells plant_tells command input file status past now =
 
 -- The status is the one that the command ended with, or else the report failed: then it is OutFault, the report has a part of
 -- that one's text, and all else is as under that one.
-pub record IsReportOf (config_tells input_tells plant_tells report_tells : Type 0) (command : Option Command) (config input : List ℕ) (before after : Story) (past now : List ℕ) (c : Counts) (drops : List ℕ) (status : Status) : Type 0 where
+pub record IsReportOf (config_tells input_tells plant_tells report_tells : Type 0) (command : Option Command) (config input left : List ℕ) (before after : Story) (past now : List ℕ) (c : Counts) (drops : List ℕ) (status : Status) : Type 0 where
   pub was : Status
   pub answers : IsReported was c.report status
-  pub done : HasEnded config_tells input_tells plant_tells command config input before after (but_report c) drops was
+  pub done : HasEnded config_tells input_tells plant_tells command config input left before after (but_report c) drops was
   pub prints : report_tells → PrintsPart input_tells plant_tells command input (content before) was past now

@@ -1,9 +1,9 @@
 -- What an answer of a reader says of itself, whether its source tells its bytes or not.
-use Rattle.std.specs.Prelude.{◌≡◌, ◌≤◌, ℕ, ◌+◌}
+use Rattle.std.specs.Prelude.{◌≡◌, ◌≤◌, ℕ, ◌+◌, List, None}
 use Rattle.plant_io.specs.Causes.{Rose}
 use Rattle.aftr_engine.specs.declared.link_records.Next.{Next}
 use Rattle.aftr_engine.specs.declared.link_records.Next.TheVariants.{Got, End, Bad, Failed, NoMemory}
-use Rattle.aftr_engine.specs.link_records.Frames.{input_limit, moment_limit}
+use Rattle.aftr_engine.specs.link_records.Frames.{event_at, input_limit, moment_limit}
 
 -- a record's moment is in its range
 abbrev pub IsTimely : Next → Type 0
@@ -36,3 +36,11 @@ HasFault faults faults' End = Unit {0}
 HasFault faults faults' (Bad offset) = Unit {0}
 HasFault faults faults' Failed = Rose faults faults'
 HasFault faults faults' NoMemory = Unit {0}
+
+-- where the source failed, no whole record is at hand
+abbrev pub HoldsNone : ℕ → List ℕ → Next → Type 0
+HoldsNone at held (Got e) = Unit {0}
+HoldsNone at held End = Unit {0}
+HoldsNone at held (Bad offset) = Unit {0}
+HoldsNone at held Failed = event_at at held ≡ None
+HoldsNone at held NoMemory = Unit {0}

@@ -11,7 +11,7 @@ abbrev pub Finds : ℕ → List ℕ → Found → Type 0
 Finds at bytes (Record head) = IsHead at bytes head
 Finds at bytes End = bytes ≡ []
 Finds at bytes Bad = 0 < length bytes
-Finds at bytes Failed = Unit {0}
+Finds at bytes Failed = event_at at bytes ≡ None
 
 -- the bytes that are left stay, and the answer is about all of them
 abbrev pub FindsWhole : ℕ → List ℕ → List ℕ → Found → Type 0

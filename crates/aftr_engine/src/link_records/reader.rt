@@ -5,7 +5,7 @@ ghost use Rattle.aftr_engine.specs.link_records.Front.{event_of};
 ghost use Rattle.aftr_engine.specs.link_records.Window.{held};
 ghost use Rattle.aftr_engine.specs.link_records.Search.{Finds, FindsWhole, FailsFor};
 ghost use Rattle.aftr_engine.specs.link_records.Reader.{Reads};
-ghost use Rattle.aftr_engine.specs.link_records.Answers.{Advances, HasFault, IsBadHere, IsTimely};
+ghost use Rattle.aftr_engine.specs.link_records.Answers.{Advances, HasFault, IsBadHere, IsTimely, HoldsNone};
 
 use super::Next;
 use super::front::{Front, HEAD, Head, front_of};
@@ -72,6 +72,7 @@ impl FrameReader {
         ensures moment { IsTimely result }
         ensures advance { Advances self.old.offset self.new.offset result }
         ensures bad { IsBadHere self.old.offset result }
+        ensures none { HoldsNone self.new.offset self.new.held result }
         ensures failed { HasFault (I.faults input.old) (I.faults input.new) result }
         ensures later { I.faults input.old ≤ I.faults input.new }
     {

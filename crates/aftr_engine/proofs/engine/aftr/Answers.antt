@@ -84,6 +84,7 @@ returns-clause-reported g c = elim c.match-command_of.branch [
         w.inputs-is,
         w.plant-is,
         first_is [] g.I.Source.rest inputs w.index-inputs-0.result some,
+        first_set [] g.I.Source.rest inputs w.run-ended.new.input some,
         first_is 0 g.I.Source.faults inputs w.index-inputs-0.result some,
         first_set 0 g.I.Source.faults inputs w.run-ended.new.input some,
         shown.drops,
@@ -92,7 +93,7 @@ returns-clause-reported g c = elim c.match-command_of.branch [
         was = ended.status;
         answers = shown.status;
         done =
-            ended_run g.C.Source.tells g.I.Source.tells g.P.Plant.tells (command_for c.args.words.now) (g.C.Source.rest c.args.cfg.now) input
+            ended_run g.C.Source.tells g.I.Source.tells g.P.Plant.tells (command_for c.args.words.now) (g.C.Source.rest c.args.cfg.now) input (g.I.Source.rest w.run-ended.new.input)
             (g.P.Plant.story c.args.plant.now) (g.P.Plant.story w.run-ended.new.plant) _ ended.tally.drops.0 ended.status is
             done.sent done.log (λ reads end. (done.counts reads end).drops) done.came done.reason done.input done.refused done.durable done.unbegun done.uncounted;
         prints = λ told. (
@@ -113,7 +114,7 @@ returns-clause-reported g c = elim c.match-command_of.branch [
         was = ended.status;
         answers = shown.status;
         done =
-            ended_query g.C.Source.tells g.I.Source.tells g.P.Plant.tells (command_for c.args.words.now) (g.C.Source.rest c.args.cfg.now) input
+            ended_query g.C.Source.tells g.I.Source.tells g.P.Plant.tells (command_for c.args.words.now) (g.C.Source.rest c.args.cfg.now) input input
             (g.P.Plant.story c.args.plant.now) (g.P.Plant.story w.trace-ended.new.plant) _ ended.tally.drops.0 ended.status
             (subst IsQuery (sym is) tt) done.damage done.reason done.same done.drops;
         prints = λ told. (
@@ -135,7 +136,7 @@ returns-clause-reported g c = elim c.match-command_of.branch [
         was = ended.status;
         answers = shown.status;
         done =
-            ended_query g.C.Source.tells g.I.Source.tells g.P.Plant.tells (command_for c.args.words.now) (g.C.Source.rest c.args.cfg.now) input
+            ended_query g.C.Source.tells g.I.Source.tells g.P.Plant.tells (command_for c.args.words.now) (g.C.Source.rest c.args.cfg.now) input input
             (g.P.Plant.story c.args.plant.now) (g.P.Plant.story w.list-ended.new.plant) _ ended.tally.drops.0 ended.status
             (subst IsQuery (sym is) tt) done.damage done.reason done.same done.drops;
         prints = λ told. (
@@ -155,7 +156,7 @@ returns-clause-reported g c = elim c.match-command_of.branch [
         was = ended.status;
         answers = shown.status;
         done =
-            ended_words g.C.Source.tells g.I.Source.tells g.P.Plant.tells (command_for c.args.words.now) (g.C.Source.rest c.args.cfg.now) input
+            ended_words g.C.Source.tells g.I.Source.tells g.P.Plant.tells (command_for c.args.words.now) (g.C.Source.rest c.args.cfg.now) input input
             (g.P.Plant.story c.args.plant.now) (g.P.Plant.story c.args.plant.now) _ ended.tally.drops.0 ended.status
             is w.before-ended.ensures.status refl w.before-ended.ensures.drops;
         prints = λ told. (

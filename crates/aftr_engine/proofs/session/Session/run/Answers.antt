@@ -1,7 +1,7 @@
 use Rattle.std.proofs.Common.{ℕ, List, ◌++◌, refl, ap, arith}
 use Rattle.plant_io.specs.Story.{content, sent}
 use Rattle.aftr_engine.proofs.RunSteps.{begun, onward, are_few, way_sent, way_within}
-use Rattle.aftr_engine.proofs.FrontSteps.{way_treated, way_unlogged, way_sending}
+use Rattle.aftr_engine.proofs.FrontSteps.{way_failed, way_treated, way_unlogged, way_sending}
 use Rattle.aftr_engine.proofs.StopSteps.{accounted_start, empty_settled, way_stops}
 use Rattle.aftr_engine.proofs.session.Session.run.Goals as goal
 
@@ -75,16 +75,18 @@ loop-event-init g c = record {
 
 pub returns-in-Failed-clause-came : goal.returns-in-Failed-clause-came
 returns-in-Failed-clause-came g c = λ reads tells.
-    way_treated _ _ (g.P.Plant.story c.args.plant.now) (g.P.Plant.story c.loop-event.plant) _ _ _ _ _ _ c.loop-event.invariant.way reads tells (c.requires.empty tells)
+    way_failed _ _ (g.P.Plant.story c.args.plant.now) (g.P.Plant.story c.loop-event.plant) (g.I.Source.rest c.args.input.now)
+    (c.loop-event.self.reader.held ++ g.I.Source.rest c.loop-event.input) c.next.new.self.held (g.I.Source.rest c.next.new.input)
+    _ _ _ _ _ c.loop-event.invariant.way reads tells (c.requires.empty tells) (c.in-Failed.ensures.reads reads) c.in-Failed.ensures.none
 
 pub returns-in-NoMemory-clause-came : goal.returns-in-NoMemory-clause-came
 returns-in-NoMemory-clause-came g c = λ reads tells.
-    way_treated _ _ (g.P.Plant.story c.args.plant.now) (g.P.Plant.story c.loop-event.plant) _ _ _ _ _ _ c.loop-event.invariant.way reads tells (c.requires.empty tells)
+    (_, way_treated _ _ (g.P.Plant.story c.args.plant.now) (g.P.Plant.story c.loop-event.plant) _ _ _ _ _ _ c.loop-event.invariant.way reads tells (c.requires.empty tells))
 
 pub returns-in-Err-NoMemory-clause-came : goal.returns-in-Err-NoMemory-clause-came
 returns-in-Err-NoMemory-clause-came g c = λ reads tells.
     rw (c.in-Err-NoMemory.ensures.memory (cc c.in-Err-NoMemory.field-0-is), c.in-Err-NoMemory.ensures.uncounted)
-    (way_treated _ _ (g.P.Plant.story c.args.plant.now) (g.P.Plant.story c.loop-event.plant) _ _ _ _ _ _ c.loop-event.invariant.way reads tells (c.requires.empty tells))
+    (_, way_treated _ _ (g.P.Plant.story c.args.plant.now) (g.P.Plant.story c.loop-event.plant) _ _ _ _ _ _ c.loop-event.invariant.way reads tells (c.requires.empty tells))
 
 pub returns-in-Err-Log-clause-came : goal.returns-in-Err-Log-clause-came
 returns-in-Err-Log-clause-came g c = λ reads tells.
