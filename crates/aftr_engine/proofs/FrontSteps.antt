@@ -74,18 +74,6 @@ way_failed I P before now input left held rest offset offset' s size t way reads
     (sym (taken_seen input left held rest offset way.seen (way.read reads) got.0 here))
     (way_treated I P before now input left offset s size t way reads tells empty)
 
--- where nothing was taken
-pub none_treated : (input left : List ℕ) (before now : Story) (drops : List ℕ) → left ≡ input → now ≡ before → drops ≡ drop_counts []
-    → HasTreatedFirst (length (frames_of (taken_of input left)).events) input before now drops
-none_treated input left before now drops same kept none =
-    let zero : length input - length left ≡ 0 = omega (arith, ap length same) in
-    let empty : taken_of input left ≡ [] = ap (λ (n : ℕ). take n input) zero in
-    let fresh : HasTreatedFirst 0 input before before drops = record {
-      sends = record { packets = sym (append-nil (sent before)); counts = none };
-      leases = sym (append-nil (content before));
-    } in
-    rw (empty, kept) fresh
-
 -- where the log failed, and nothing more was sent
 pub way_unlogged : (I P : Type 0) (before now last : Story) (input left : List ℕ) (offset : ℕ) (s : State) (size : ℕ) (t : Tally)
     → IsUnderWay I P input left (sent before) (sent now) (content now) offset s size t → I → P → sent last ≡ sent now
