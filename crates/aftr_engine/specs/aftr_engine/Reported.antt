@@ -26,7 +26,8 @@ but_report c = record {
   report = record { before = 0; after = 0 };
 }
 
--- All that a command has done that ends so, where these bytes of its input are left, but for its report. Each fact asks for the flags of the objects that it looks at.
+-- All that a command has done that ends so, where these bytes of its input are left, but for its report. Each fact asks for the
+-- flags of the objects that it looks at.
 pub record HasEnded (config_tells input_tells plant_tells : Type 0) (command : Option Command) (config input left : List ℕ) (before after : Story) (c : Counts) (drops : List ℕ) (status : Status) : Type 0 where
   -- of a run
   pub packets : input_tells → plant_tells → IsRun command → IsAtRecordsEnd status → sent after ≡ sent before ++ output_of input

@@ -65,7 +65,8 @@ impl FrameReader {
     /// call after `Failed` or `NoMemory` tries again.
     ///
     /// `End` comes where no byte is left, `Bad` at bytes that are no record (cut short by the input's end
-    /// among them), `Failed` where the source failed, and `NoMemory` where there is none for the body.
+    /// among them), `Failed` where the source failed and no whole record is at hand, and `NoMemory` where there is
+    /// none for the body.
     pub fn next<I: Source>(&mut self, alloc: Global, input: &mut I) -> Next
         ensures reads { I.tells → Reads self.old.offset (self.old.held ++ I.rest input.old)
             self.new.offset (self.new.held ++ I.rest input.new) result }
