@@ -32,21 +32,25 @@ pub fn check<R: Abort + AllocGlobal>(rt: &R, case: &Case<'_>) {
     check_over(rt, case, &input, &log);
 }
 
-/// Checks what each of these cases leaves where its sources are of the kind that never fails.
+/// Checks what each of these cases leaves where its sources are of the kind that never fails. Each starts on an empty log.
 pub fn check_all_without_faults<R: Abort + AllocGlobal>(rt: &R, cases: &[Case<'_>]) {
     for case in cases {
+        assert!(rt; case.config_fails_at.is_empty() && case.input_fails_at.is_empty());
+        assert!(rt; case.log.is_empty());
         let input = octets(rt, case.input);
         let seen = run_without_faults(rt, case, &input);
         compare(rt, case, &input, &seen);
     }
 }
 
-/// Checks a run, and then queries over the log that it left, whatever log they name.
+/// Checks a run on an empty log, and then queries over the log that it left. None of them names a log of its own.
 pub fn check_behind<R: Abort + AllocGlobal>(rt: &R, before: &Case<'_>, queries: &[Case<'_>]) {
     let input = octets(rt, before.input);
+    assert!(rt; before.log.is_empty());
     let seen = run(rt, before, &input, &[]);
     compare(rt, before, &input, &seen);
     for query in queries {
+        assert!(rt; query.log.is_empty());
         check_over(rt, query, &[], seen.plant.content());
     }
 }

@@ -16,7 +16,7 @@ static DROPPED: Case<'static> = Case {
 static RECORDS: [(&str, &str); 3] = [
     ("no packet", "00000009 01 00000000000f4240"),
     (
-        "an IPv4 packet from the public side",
+        "an IPv4 packet from the public side that isn't to the pool",
         "00000029 02 00000000000f4240
         4500 0020 0001 0000 40 11 7ec4 c0000002 cb007105 1388 0035 000c 2b4a 61626364",
     ),
