@@ -209,8 +209,7 @@ fn has_ended_for(config: &Config, owner: Subscriber, now: Moment, lease: &LeaseR
         None => false,
         // An end may be any moment, so nothing is added to it.
         Some(until) => until.0 <= now.0
-            && (now.0 - until.0 >= config.hold_ms
-                || owner.is(lease.owner) && until.0 < now.0),
+            && (now.0 - until.0 >= config.hold_ms || owner.is(lease.owner) && until.0 < now.0),
     }
 }
 
