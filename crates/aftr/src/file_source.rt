@@ -1,5 +1,6 @@
 //! A file that is read in order.
-ghost use Rattle.std.specs.Prelude.{◌≡◌, [], ◌≤◌, length, IfOk};
+ghost use Rattle.std.specs.Prelude.{◌≡◌, [], ◌≤◌, length, IfOk, OnOk, OnErr, IsErr, IsNone};
+ghost use Rattle.plant_io.specs.Causes.{HasCause, counted};
 
 use crate::faults::{count_fault, opened};
 use plant_io::{Failed, Source};
@@ -19,7 +20,8 @@ impl FileSource {
     /// The file at this path. Where it can't be opened every read fails; so it does without a path, and then no file is
     /// touched.
     pub fn open(rt: &impl Files<File = File>, path: Option<&str>) -> Self
-        ensures { result.faults ≡ 0 }
+        ensures faults { result.faults ≡ 0 }
+        ensures unnamed { IsNone path.entry → IsNone result.file }
     {
         let file = match path {
             Some(path) => File::open(rt, path).ok(),
@@ -38,13 +40,20 @@ impl Source for FileSource {
 
     ghost faults = { λ source. source.faults };
 
-    fn read(&mut self, buf: &mut [u8]) -> Result<usize, Failed> {
+    fn read(&mut self, buf: &mut [u8]) -> Result<usize, Failed>
+        ensures within { IfOk result (λ count. count ≤ length buf.new) }
+        ensures cause { HasCause self.old.faults self.new.faults result }
+        ensures no_fault { OnOk result (self.new ≡ self.old) }
+        ensures fault { OnErr result (self.new ≡ record self.old { faults = counted self.old.faults }) }
+        ensures missing { IsNone self.old.file → IsErr result }
+    {
         count_fault(read_next(&self.file, buf), &mut self.faults)
     }
 }
 
 fn read_next(file: &Option<File>, buf: &mut [u8]) -> io::Result<usize>
-    ensures { IfOk result (λ count. count ≤ length buf.new) }
+    ensures within { IfOk result (λ count. count ≤ length buf.new) }
+    ensures missing { IsNone file.now → IsErr result }
 {
     let mut file = opened(file)?;
     file.read(buf)

@@ -1,5 +1,6 @@
 //! Standard output.
-ghost use Rattle.std.specs.Prelude.{◌≡◌, []};
+ghost use Rattle.std.specs.Prelude.{◌≡◌, [], OnOk, OnErr};
+ghost use Rattle.plant_io.specs.Causes.{HasCause, counted};
 
 use crate::faults::count_fault;
 use plant_io::{Failed, Sink};
@@ -29,7 +30,11 @@ impl<W: Write + Drop> Sink for StdSink<W> {
 
     ghost faults = { λ sink. sink.faults };
 
-    fn write(&mut self, bytes: &[u8]) -> Result<(), Failed> {
+    fn write(&mut self, bytes: &[u8]) -> Result<(), Failed>
+        ensures cause { HasCause self.old.faults self.new.faults result }
+        ensures no_fault { OnOk result (self.new.faults ≡ self.old.faults) }
+        ensures fault { OnErr result (self.new.faults ≡ counted self.old.faults) }
+    {
         count_fault(write_out(&mut self.out, bytes), &mut self.faults)
     }
 }
