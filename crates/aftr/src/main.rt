@@ -2,8 +2,9 @@
 //! The report goes to standard output; nothing goes to standard error.
 #![tactic(auto)]
 
-ghost use Rattle.std.specs.Prelude.{◌≡◌, ◌++◌, length, IfOk};
-ghost use Rattle.aftr_engine.specs.aftr_engine.Causes.{IsReported};
+ghost use Rattle.std.specs.Prelude.{◌≡◌, ◌++◌, length, IfOk, OnErr, slice_get, option_and_then};
+ghost use Rattle.std.specs.Option.{option_copied};
+ghost use Rattle.aftr_engine.specs.aftr_engine.Causes.{IsReported, PrintsFault};
 ghost use Rattle.aftr_engine.specs.aftr_engine.Report.{fault_line};
 ghost use Rattle.aftr_engine.specs.aftr_engine.Words.{input_count};
 
@@ -47,7 +48,9 @@ fn read_words<R: Env + AllocGlobal>(rt: &R) -> Result<Vec<Word>, NoMemory> {
 }
 
 // The path that stands at this place among the words, where there is one.
-fn path_at(words: &[Word], at: Option<u8>) -> Option<&str> {
+fn path_at(words: &[Word], at: Option<u8>) -> Option<&str>
+    ensures { option_copied result ≡ option_and_then (slice_get words.now) at }
+{
     let word = words.get(usize::from(at?))?;
     Some(word.as_str())
 }
@@ -76,7 +79,10 @@ fn call<R: Files<File = File> + AllocGlobal, S: Sink>(
     rt: &R,
     words: &[Word],
     report: &mut S,
-) -> Result<Outcome, NoMemory> {
+) -> Result<Outcome, NoMemory>
+    ensures fault { S.tells → IfOk result (λ outcome. PrintsFault (S.written report.old) (S.written report.new) outcome.status) }
+    ensures unreported { OnErr result (report.new ≡ report.old) }
+{
     let paths = paths_of(words);
     let mut inputs = open_inputs(rt, words, paths)?;
     let (config, log, outlet) = match paths {
@@ -109,7 +115,10 @@ fn report_no_memory<S: Sink>(report: &mut S) -> Status
 fn run<R: Files<File = File> + Env + AllocGlobal, S: Sink>(
     rt: &R,
     report: &mut S,
-) -> Result<Outcome, NoMemory> {
+) -> Result<Outcome, NoMemory>
+    ensures fault { S.tells → IfOk result (λ outcome. PrintsFault (S.written report.old) (S.written report.new) outcome.status) }
+    ensures unreported { OnErr result (report.new ≡ report.old) }
+{
     let words = read_words(rt)?;
     call(rt, &words, report)
 }
