@@ -41,7 +41,7 @@ use std::alloc::Global;
 /// What is refused is refused in this order: `BadWords` where the words are no command; then, of a run, `BadConfig` where
 /// the configuration has a byte, `AlreadyThere` with the log's size in bytes where it has one, and `BadInput` with the
 /// offset at which no record stands, all before it treated. `LogDamaged` is a query's, with the offset of the first record
-/// that is none. `ReadFault`, `LogFault` and `OutFault` come where a read, the log, or the outlet or the report failed, and
+/// that isn't sound. `ReadFault`, `LogFault` and `OutFault` come where a read, the log, or the outlet or the report failed, and
 /// `NoMemory` of every command.
 pub fn aftr<C: Source, I: Source, P: Plant, R: Sink>(
     alloc: Global,
