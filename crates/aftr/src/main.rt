@@ -2,11 +2,11 @@
 //! The report goes to standard output; nothing goes to standard error.
 #![tactic(auto)]
 
-ghost use Rattle.std.specs.Prelude.{◌≡◌, ◌++◌, length, IfOk, OnErr, slice_get, option_and_then};
+ghost use Rattle.std.specs.Prelude.{◌≡◌, ◌++◌, length, IfOk, OnErr, None, slice_get, option_and_then};
 ghost use Rattle.std.specs.Option.{option_copied};
 ghost use Rattle.aftr_engine.specs.aftr_engine.Causes.{IsReported, PrintsFault};
 ghost use Rattle.aftr_engine.specs.aftr_engine.Report.{fault_line};
-ghost use Rattle.aftr_engine.specs.aftr_engine.Words.{input_count};
+ghost use Rattle.aftr_engine.specs.aftr_engine.Words.{input_count, command_for};
 
 mod ending;
 mod faults;
@@ -80,6 +80,7 @@ fn call<R: Files<File = File> + AllocGlobal, S: Sink>(
     words: &[Word],
     report: &mut S,
 ) -> Result<Outcome, NoMemory>
+    ensures words { IfOk result (λ outcome. outcome.status ≡ Status.BadWords → command_for words.now ≡ None) }
     ensures fault { S.tells → IfOk result (λ outcome. PrintsFault (S.written report.old) (S.written report.new) outcome.status) }
     ensures unreported { OnErr result (report.new ≡ report.old) }
 {
