@@ -1,4 +1,6 @@
 //! What comes in, what is logged, and why a packet is dropped.
+ghost use Rattle.std.specs.Prelude.{◌≡◌, ◌≤◌, length};
+ghost use Rattle.aftr_base.specs.Drops.{name_of};
 
 use crate::list::List;
 use crate::row::PlanSpec;
@@ -61,37 +63,116 @@ pub enum LogEvent {
     },
 }
 
-/// Why a record was dropped, in the order in which the causes are reported. A variant without a comment isn't given.
+/// Why a record was dropped, in the order in which the causes are reported. A cause that says so isn't given yet.
 #[derive(Clone, Copy, Debug, PartialEq, Eq)]
 pub enum DropCause {
     /// A packet while the clock, the greatest moment so far, is 0.
     Settling,
+    /// A record that was captured in part.
     Snapped,
+    /// Bytes that are no packet: of IPv6 (RFC 8200 section 3), with a chain of headers past the payload, of IPv4 (RFC 791
+    /// section 3.1), or of UDP (RFC 768).
     BadPacket,
+    /// A packet from the softwire side that isn't for this end, or one from the public side that isn't for the pool.
     NotUs,
+    /// A packet from the softwire side that carries neither IPv4 nor a piece of it (RFC 2473 section 3.3).
     NotTunnel,
+    /// A packet whose softwire lies under no aggregate.
     UnknownSubscriber,
+    /// A piece over the limit of pieces or datagrams. It isn't given yet.
     PieceTooMany,
+    /// A piece past the greatest length of a datagram. It isn't given yet.
     PieceTooLong,
+    /// A piece that shares a byte with another. It isn't given yet.
     PieceOverlap,
+    /// An IPv4 header with options.
     Options,
+    /// A packet from or to an address that isn't routed, or from the public side with a source in the pool.
     NoRoute,
-    /// A packet that is neither a UDP datagram of a subscriber that can be translated nor one that can be a reply.
+    /// A packet that isn't translated: a piece, another protocol than UDP, one to the pool from a subscriber, or one that
+    /// would have to be cut; and a record of another ethertype.
     NoProtocol,
+    /// A packet whose TTL is 0 or 1.
     TtlSpent,
+    /// A packet for the public side that is longer than its MTU and may not be cut.
     TooBig,
+    /// A mapping more than a subscriber may have. It isn't given yet.
     QuotaMappings,
-    /// A packet of a mapping to a further remote address, of a subscriber that has its quota of peers.
+    /// A packet of a mapping to a further remote address, of a subscriber that has its quota of peers (RFC 6888 section 3).
     QuotaPeers,
     /// A packet that needs a mapping, of a subscriber whose open block has no free port.
     QuotaBlocks,
+    /// A further block, where the subscriber's address has none that is free. It isn't given yet.
     AddressFull,
     /// A packet that needs a mapping, of a subscriber without an open block, where no block is free.
     PoolEmpty,
-    /// A reply to a place that no mapping has.
+    /// A packet to a place of the pool that no mapping has.
     NoMapping,
+    /// A packet from a remote address that the mapping doesn't admit. It isn't given yet.
     Filtered,
     /// The text of a configuration: none is accepted.
     BadChange,
+    /// A packet of a batch that a failing log lost. It isn't given yet.
     Lost,
+}
+
+impl DropCause {
+    /// All causes, in the order in which they are reported and counted.
+    pub const ALL: [DropCause; 23] = [
+        DropCause::Settling,
+        DropCause::Snapped,
+        DropCause::BadPacket,
+        DropCause::NotUs,
+        DropCause::NotTunnel,
+        DropCause::UnknownSubscriber,
+        DropCause::PieceTooMany,
+        DropCause::PieceTooLong,
+        DropCause::PieceOverlap,
+        DropCause::Options,
+        DropCause::NoRoute,
+        DropCause::NoProtocol,
+        DropCause::TtlSpent,
+        DropCause::TooBig,
+        DropCause::QuotaMappings,
+        DropCause::QuotaPeers,
+        DropCause::QuotaBlocks,
+        DropCause::AddressFull,
+        DropCause::PoolEmpty,
+        DropCause::NoMapping,
+        DropCause::Filtered,
+        DropCause::BadChange,
+        DropCause::Lost,
+    ];
+
+    /// The name that a report prints, of at most 17 bytes.
+    pub fn name(self) -> &'static str
+        ensures text { result.now ≡ name_of self }
+        ensures short { length result.now ≤ 17 }
+    {
+        match self {
+            DropCause::Settling => "Settling",
+            DropCause::Snapped => "Snapped",
+            DropCause::BadPacket => "BadPacket",
+            DropCause::NotUs => "NotUs",
+            DropCause::NotTunnel => "NotTunnel",
+            DropCause::UnknownSubscriber => "UnknownSubscriber",
+            DropCause::PieceTooMany => "PieceTooMany",
+            DropCause::PieceTooLong => "PieceTooLong",
+            DropCause::PieceOverlap => "PieceOverlap",
+            DropCause::Options => "Options",
+            DropCause::NoRoute => "NoRoute",
+            DropCause::NoProtocol => "NoProtocol",
+            DropCause::TtlSpent => "TtlSpent",
+            DropCause::TooBig => "TooBig",
+            DropCause::QuotaMappings => "QuotaMappings",
+            DropCause::QuotaPeers => "QuotaPeers",
+            DropCause::QuotaBlocks => "QuotaBlocks",
+            DropCause::AddressFull => "AddressFull",
+            DropCause::PoolEmpty => "PoolEmpty",
+            DropCause::NoMapping => "NoMapping",
+            DropCause::Filtered => "Filtered",
+            DropCause::BadChange => "BadChange",
+            DropCause::Lost => "Lost",
+        }
+    }
 }

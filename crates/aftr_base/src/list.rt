@@ -147,6 +147,11 @@ impl Packets {
         }
     }
 
+    /// What the packets take their memory from.
+    pub fn allocator(&self) -> Global {
+        *self.packets.allocator()
+    }
+
     /// The packets of these bytes. It takes the vector over and needs no further memory.
     pub fn from_vec(packets: Vec<Vec<u8>>) -> Self
         ensures { result ≡ map (λ packet. packet.items) packets.items }

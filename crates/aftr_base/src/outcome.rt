@@ -1,6 +1,9 @@
 //! What a call of the program is asked, and what it answers.
-ghost use Rattle.std.specs.Prelude.{◌≡◌, string_bytes};
+ghost use Rattle.std.specs.Prelude.{◌≡◌, ◌+◌, ◌<◌, ◌^◌, ◌++◌, [], ◌∷◌, List as Items, EachIndex, slice_index, string_bytes};
+ghost use Rattle.aftr_base.specs.Drops.{drop_counts};
+ghost use Rattle.aftr_base.specs.declared.event.DropCause.{DropCause as Cause};
 
+use crate::event::DropCause;
 use crate::list::List;
 use std::fmt;
 use std::marker::Model;
@@ -112,6 +115,24 @@ pub struct Mark {
 /// How many records were dropped: a number for each cause, in the order of `DropCause`.
 #[derive(Clone, Copy, Debug, PartialEq, Eq)]
 pub struct DropCounts(pub [u64; 23]);
+
+impl DropCounts {
+    /// Nothing dropped.
+    pub fn none() -> Self
+        ensures { result.0 ≡ drop_counts [] }
+    {
+        DropCounts([0; 23])
+    }
+
+    /// Counts one more record that was dropped for this cause, where no count is near its type's end.
+    pub fn count(&mut self, cause: DropCause)
+        requires { EachIndex self.old.0 (λ k. slice_index self.old.0 k < 2 ^ 63) }
+        ensures { (drops : Items Cause) → self.old.0 ≡ drop_counts drops → self.new.0 ≡ drop_counts (drops ++ cause ∷ []) }
+    {
+        let place = cause as usize;
+        self.0[place] += 1;
+    }
+}
 
 /// How a call of the program ended.
 #[derive(Debug, Drop)]
