@@ -1,0 +1,5 @@
+pub mod Attempts
+pub mod Pieces
+pub mod HeaderRead
+pub mod GrammarLaws
+pub mod SumLaws

@@ -1,0 +1,32 @@
+use Rattle.std.proofs.Common.{rules, ap, sym, subst, ◌∙◌, refl, arith}
+use Rattle.aftr_base.specs.Bytes.{IsBytes}
+use Rattle.aftr_base.specs.Checksum.{sum16}
+use Rattle.wire_ip4.specs.Grammar.{IsHeader, AreFields}
+use Rattle.wire_ip4.proofs.Pieces.{nothing_fits}
+use Rattle.wire_ip4.proofs.SumLaws.{sound_forwarded}
+use Rattle.wire_ip4.proofs.view.Ip4View.write_forwarded.Goals as goal
+
+pub returns-clause-bytes : goal.returns-clause-bytes
+returns-clause-bytes c = search rules
+
+pub returns-clause-sound : goal.returns-clause-sound
+returns-clause-sound c = λ sound.
+    let h = c.args.self.now.0 in
+    let fields : AreFields c.fields-old.result = record {
+      tos = omega (arith, c.fields-old.type_inv);
+      total = omega (arith, c.fields-old.type_inv);
+      id = omega (arith, c.fields-old.type_inv);
+      offset = c.fields-old.ensures.offset;
+      ttl = omega (arith, c.fields-old.type_inv);
+      proto = omega (arith, c.fields-old.type_inv);
+      src = omega (arith, c.fields-old.type_inv);
+      dst = omega (arith, c.fields-old.type_inv);
+    } in
+    let is : IsHeader h = record {
+      fields = subst AreFields c.fields-old.ensures.value fields;
+      sum = omega (arith, c.sum.ensures, c.sum.type_inv);
+      options = subst IsBytes (sym c.requires.plain) nothing_fits;
+      words = rw c.requires.plain refl;
+      most = rw c.requires.plain (omega arith);
+    } in
+    ap sum16 (returns-clause-bytes c) ∙ sound_forwarded c.args.source c.args.addr h is (omega arith) sound

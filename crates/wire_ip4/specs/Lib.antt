@@ -1,0 +1,3 @@
+-- Definitions of IPv4 headers.
+pub mod Grammar
+pub mod Forwarded
