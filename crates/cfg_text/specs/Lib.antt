@@ -1,0 +1,3 @@
+-- The words of the configuration's contracts.
+pub mod Defaults
+pub mod Accepted

@@ -1,0 +1,8 @@
+//! The softwire: IPv4 packets carried in IPv6 packets (RFC 2473 3, RFC 6333 5).
+#![tactic(auto)]
+
+mod from_tunnel;
+mod into_tunnel;
+
+pub use from_tunnel::{DecapBad, Tunnel, decap};
+pub use into_tunnel::encap;
