@@ -1,21 +1,27 @@
 #!/usr/bin/env bash
 # Proves and builds the program, which then stands at crates/aftr/out/aftr, and runs it once on an input of no bytes.
-# It says what went wrong, and nothing else.
+# Where it was built from the sources as they are, nothing is done. It says what went wrong, and nothing else.
 set -u
-top=$(cd "$(dirname "$0")/.." && pwd)
+cd "$(dirname "$0")/.." || exit 1
 if ! command -v rt > /dev/null; then
     echo "no rt: the Rattle toolchain is missing" >&2
     exit 1
 fi
+. scripts/built.sh
+if is_built; then exit 0; fi
+
 folder=$(mktemp -d) || exit 1
 trap 'rm -rf "$folder"' EXIT
 : > "$folder/config.toml"
 : > "$folder/in0"
-
-cd "$top/crates/aftr" || exit 1
-rt run -- run "$folder/config.toml" "$folder/log" "$folder/out" "$folder/in0" > "$folder/said" 2>&1
+sources=$(sum_of_sources)
+(cd crates/aftr && rt run -- run "$folder/config.toml" "$folder/log" "$folder/out" "$folder/in0") > "$folder/said" 2>&1
 status=$?
 if [ "$status" -ne 0 ]; then
     cat "$folder/said" >&2
+    exit "$status"
 fi
-exit "$status"
+if ! note_built "$sources"; then
+    echo "the sources changed while the program was built: build it again" >&2
+    exit 1
+fi

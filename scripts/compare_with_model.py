@@ -1,8 +1,10 @@
 #!/usr/bin/env python3
-"""Compares the built program with the plain model of model.py on random inputs, logs and words.
+"""Compares the built program with the plain model of model.py.
 
-The inputs are the same for the same seed. Each call of the program is one comparison: of its exit status, what it
-prints, and every file that it leaves. The last line is 'N passed, M failed', and the exit status 0 where M is 0.
+First come the cases that were worked out by hand, of cases.py and refusal_cases.py, which both must meet; then random
+inputs, logs and words. The inputs are the same for the same seed. Each call of the program is one comparison: of its
+exit status, what it prints, and every file that it leaves. Without a program the cases alone are checked, on the model.
+The last line is 'N passed, M failed', and the exit status 0 where M is 0.
 """
 
 from __future__ import annotations
@@ -11,439 +13,26 @@ import argparse
 import os
 import random
 import re
-import struct
 import subprocess
 import sys
 import tempfile
-from typing import List, NamedTuple, Optional, Sequence, Set, Tuple
+from typing import List, Optional, Sequence, Set, Tuple
 
 import model
-from model import CHANGE, PUBLIC, SOFTWIRE, TICK, Files, Inner, Lease, Place, Prefix, Translator
+import streams
+from cases import cases
+from model import Files
+from refusal_cases import refusals
+from streams import RUN, Session
 
-RUN = ["run", "config", "log", "out", "in"]
 ALL_KINDS = 100  # so many streams have each kind of input among them
-
-
-def quads(text: str) -> List[int]:
-    return [int.from_bytes(bytes(map(int, quad.split("."))), "big") for quad in text.split()]
-
-
-def softwire_of(subscriber: int, host: int) -> int:
-    return model.AGGREGATE + (subscriber << 72) + host
-
-
-SOFTWIRES = [softwire_of(0, 2), softwire_of(0, 3), softwire_of(1, 2), softwire_of(2, 2), softwire_of(65536, -1)]
-OTHER_SOFTWIRES = [softwire_of(65536, 0), softwire_of(0, -1), 0, 1, model.AFTR, (1 << 128) - 1]
-INNERS = quads("192.0.0.2 192.0.0.3 10.0.0.1")
-REMOTES = quads("203.0.113.5 203.0.113.6 198.51.100.1 192.0.0.8 223.255.255.255")
-# The ends of the ranges that aren't routed, of 192.0.0.0/29 (RFC 6333 5.7) and of the pool, and their neighbours.
-EDGE_ADDRESSES = quads(
-    "0.0.0.0 0.255.255.255 1.0.0.0 126.255.255.255 127.0.0.1 127.255.255.255 128.0.0.0 223.255.255.255 224.0.0.1 "
-    "240.0.0.0 255.255.255.255 191.255.255.255 192.0.0.0 192.0.0.7 192.0.0.8 192.0.2.7 192.0.2.8 192.0.2.11 192.0.2.12"
-)
-
-
-def checksum(data: bytes) -> int:
-    """The Internet checksum (RFC 1071)."""
-    total = sum(struct.unpack(f">{len(data) // 2}H", data))
-    while total > 0xFFFF:
-        total = (total & 0xFFFF) + (total >> 16)
-    return 0xFFFF - total
-
-
-def with_sum(packet: bytearray) -> bytearray:
-    """The packet with the right checksum of its header, with options or without."""
-    header = packet[:24] if packet[0] == 0x46 else packet[:20]
-    header[10:12] = bytes(2)
-    packet[10:12] = struct.pack(">H", checksum(bytes(header)))
-    return packet
-
-
-def udp_packet(source: Place, remote: Place, payload: bytes, ident: int = 1, options: bytes = b"") -> bytearray:
-    length = 8 + len(payload)
-    ports = struct.pack(">HHH", source.port, remote.port, length)
-    pseudo = struct.pack(">IIHH", source.address, remote.address, model.UDP, length)
-    udp_sum = checksum(pseudo + ports + bytes(2) + payload + bytes(len(payload) % 2)) or 0xFFFF
-    words = 5 + len(options) // 4
-    head = struct.pack(">BBHHHBBH", 0x40 + words, 0, 4 * words + length, ident, 0, 64, model.UDP, 0)
-    addresses = struct.pack(">II", source.address, remote.address)
-    return with_sum(bytearray(head + addresses + options + ports + struct.pack(">H", udp_sum) + payload))
-
-
-def ipv6_packet(softwire: int, payload: bytes, next_header: int = model.IPV4_IN_IPV6) -> bytearray:
-    head = struct.pack(">IHBB", 6 << 28, len(payload), next_header, 64)
-    return bytearray(head + softwire.to_bytes(16, "big") + model.AFTR.to_bytes(16, "big") + payload)
-
-
-class Edit(NamedTuple):
-    """A field of a packet that gets one of these values, or has one of them added."""
-
-    at: int
-    size: int
-    values: Sequence[int]
-    adds: bool = False
-
-    def apply(self, rng: random.Random, packet: bytearray) -> None:
-        old = model.number(packet, self.at, self.size) if self.adds else 0
-        value = (old + rng.choice(self.values)) % (1 << 8 * self.size)
-        packet[self.at : self.at + self.size] = value.to_bytes(self.size, "big")
-
-
-IPV4_EDITS = [
-    Edit(0, 1, (0x05, 0x35, 0x40, 0x44, 0x46, 0x4F, 0x55, 0x65)),  # version and header length
-    Edit(1, 1, (1, 0xB8, 0xFF)),  # TOS
-    Edit(2, 2, (-20, -12, -9, -1, 1, 2), adds=True),  # total length
-    Edit(2, 2, (0, 19, 20, 27, 28, 0xFFFF)),
-    Edit(4, 2, (0, 0x1234, 0xFFFF)),  # identification
-    Edit(6, 2, (0x4000, 0x8000, 0xC000, 0x2000, 0x6000, 0x0001, 0x1FFF, 0xA001)),  # flags and fragment offset
-    Edit(8, 1, (0, 1, 2, 3, 255)),  # TTL
-    Edit(9, 1, (0, 1, 6, 41, 47, 255)),  # protocol
-    *[Edit(12, 4, EDGE_ADDRESSES), Edit(16, 4, EDGE_ADDRESSES)] * 2,
-]
-SUM_EDITS = [Edit(10, 2, (1, 0xFFFF, 0x8000), adds=True), Edit(10, 2, (0, 0xFFFF))]
-UDP_EDITS = [
-    Edit(20, 2, (0, 1, 0xFFFF)),  # source port
-    Edit(22, 2, (0, 1, 0xFFFF)),  # destination port
-    Edit(24, 2, (-5, -1, 1, 2), adds=True),  # length
-    Edit(24, 2, (0, 7, 8, 9, 0xFFFF)),
-    Edit(26, 2, (0, 0, 1, 0x8000, 0xFFFE, 0xFFFF)),  # checksum
-]
-IPV6_EDITS = [
-    Edit(0, 1, (0x00, 0x45, 0x50, 0x70, 0xF0)),  # version
-    Edit(0, 4, (0x600F_FFFF, 0x6FF0_0000, 0x6000_0001, 0x6ABC_DEF0)),  # traffic class and flow label
-    Edit(4, 2, (-28, -1, 1, 8, 40), adds=True),  # payload length
-    Edit(4, 2, (0, 19, 20, 0xFFFF)),
-    Edit(6, 1, (0, 6, 17, 41, 43, 44, 50, 58, 59, 60)),  # next header
-    Edit(7, 1, (0, 1, 255)),  # hop limit
-    Edit(8, 16, OTHER_SOFTWIRES),
-    Edit(24, 16, (model.AFTR + 1, model.AFTR - 1, 0, SOFTWIRES[0], model.AFTR ^ 1 << 127)),
-]
-# Headers between IPv6 and IPv4: options with an encapsulation limit (RFC 2473 4.1.1), hop-by-hop options, fragments.
-EXTENSIONS = [(60, "0400040104010100"), (0, "0400010400000000"), (44, "0400000000000001"), (44, "0400000100000001")]
-
-
-def edited(rng: random.Random, packet: bytearray) -> bytearray:
-    """The IPv4 packet after an edit or two, mostly with its header's checksum made right again; or cut."""
-    for _ in range(rng.choice((1, 1, 1, 2))):
-        rng.choice(rng.choice((IPV4_EDITS, IPV4_EDITS, UDP_EDITS))).apply(rng, packet)
-    with_sum(packet)
-    if rng.random() < 0.15:
-        rng.choice(SUM_EDITS).apply(rng, packet)
-    if rng.random() < 0.1:
-        del packet[rng.randrange(len(packet)) :]
-    return packet
-
-
-def with_sums_to_zero(rng: random.Random, packet: bytearray, is_source: bool, place: Place) -> bytearray:
-    """The packet with a sum that is zero once it moves to this place, UDP's or IPv4's; or zero before it moves."""
-    if rng.random() < 0.6:
-        packet[26:28] = b"\0\1"
-        from_one = model.word(model.moved(packet, is_source, place), 26)
-        packet[26:28] = struct.pack(">H", (1 - from_one) % 0xFFFF or 0xFFFF)
-        return packet
-    at_zero = packet if rng.random() < 0.5 else with_sum(bytearray(model.moved(packet, is_source, place)))
-    packet[4:6] = struct.pack(">H", (model.word(packet, 4) + model.word(at_zero, 10)) % 0xFFFF)
-    with_sum(packet)
-    if packet[10:12] == bytes(2) and rng.random() < 0.5:
-        packet[10:12] = b"\xff\xff"  # the other zero of one's complement
-    return packet
-
-
-class Session:
-    """An input that grows by records. The model runs along, so that records can aim at what is live or just gone."""
-
-    def __init__(self, rng: random.Random) -> None:
-        self.rng = rng
-        self.state = Translator()
-        self.pieces: List[bytes] = []
-        self.softwires = rng.sample(SOFTWIRES, rng.randint(1, 4))
-        self.ports = [rng.choice((0, 1, 53, 5000, 5001, 40000, 65535)) for _ in range(rng.randint(1, 5))]
-        self.start = rng.choice((1, 1_000_000, rng.randint(1, 1 << 40), model.LAST_INPUT_MOMENT - 900_000))
-
-    def add(self, kind: int, body: bytes, moment: Optional[int] = None) -> None:
-        moment = self.moment() if moment is None else moment
-        record = model.Record(kind, max(0, min(moment, model.LAST_INPUT_MOMENT)), bytes(body))
-        self.pieces.append(model.frame(*record))
-        self.state.treat(record)
-
-    def moment(self) -> int:
-        """A moment: the clock, a little later, out of order, or at the edge of a deadline or of a hold time."""
-        clock = self.state.clock
-        if clock == 0:
-            return self.rng.choice((0, self.start, self.start))
-        edges = [end for mapping in self.state.mappings.values() for end in mapping.deadlines.values()]
-        edges += [lease.until + model.HOLD for lease in self.state.leases if lease.until is not None]
-        edges = [edge for edge in edges if edge >= clock - 1] or [clock + 1]
-        step = self.rng.random()
-        if step < 0.45:
-            return clock
-        if step < 0.65:
-            return clock + self.rng.choice((1, 2, 500, 119_999, 120_000, 150_000))
-        if step < 0.72:
-            return self.rng.choice((0, clock - 1, self.rng.randint(0, clock)))
-        if step < 0.74:
-            return clock + self.rng.choice((299_999, 300_000, 300_001, 10_000_000))
-        return self.rng.choice(edges) + self.rng.choice((-1, -1, 0, 0, 1))
-
-    def payload(self, edges: Sequence[int]) -> bytes:
-        """Some bytes, seldom of one of these lengths."""
-        return self.rng.randbytes(self.rng.choice(edges if self.rng.random() < 0.05 else (0, 1, 4, 4, 5, 12)))
-
-    def plain(self, softwire: int, port: int, moment: int, remote: int = REMOTES[0]) -> None:
-        """A packet of a subscriber, for streams of many."""
-        packet = udp_packet(Place(INNERS[0], port), Place(remote, self.rng.choice((53, 99))), b"abcd")
-        self.add(SOFTWIRE, ipv6_packet(softwire, packet), moment)
-
-    def outbound(self) -> None:
-        """A packet of a subscriber, which may be edited at every layer."""
-        rng = self.rng
-        inner = Inner(rng.choice(self.softwires), rng.choice(INNERS), rng.choice(self.ports))
-        remote = Place(rng.choice(REMOTES), rng.choice((53, 99)))
-        options = rng.choice((b"", bytes((1, 1, 1, 0)))) if rng.random() < 0.03 else b""
-        payload = self.payload((1471, 1472, 1473))
-        packet = udp_packet(Place(inner.address, inner.port), remote, payload, rng.randrange(65536), options)
-        mapping = self.state.mappings.get(inner)
-        if mapping is not None and rng.random() < 0.2:
-            packet = with_sums_to_zero(rng, packet, True, mapping.place)
-        elif rng.random() < 0.15:
-            packet = edited(rng, packet)
-        packet += rng.randbytes(rng.choice((0, 0, 0, 0, 1, 7)))
-        whole = ipv6_packet(inner.softwire, packet)
-        if rng.random() < 0.03:
-            next_header, extension = rng.choice(EXTENSIONS)
-            whole = ipv6_packet(inner.softwire, bytes.fromhex(extension) + packet, next_header)
-        if rng.random() < 0.1:
-            rng.choice(IPV6_EDITS).apply(rng, whole)
-        whole += rng.randbytes(rng.choice((0, 0, 0, 0, 1, 40)))
-        if rng.random() < 0.02:
-            del whole[rng.randrange(len(whole)) :]
-        if rng.random() < 0.01:
-            whole += bytes(65575 - len(whole))  # the longest record
-        self.add(SOFTWIRE, whole)
-
-    def reply(self) -> None:
-        """A packet to the pool: to a live place, to one that was live, or beside."""
-        rng = self.rng
-        live = list(self.state.mappings.values())
-        mapping = rng.choice(live) if live and rng.random() < 0.75 else None
-        beside = Place(rng.choice(model.POOL), rng.choice((0, 1, 1023, 1024, 1025, 1535, 1536, 1537, 2048, 65535)))
-        remote = rng.choice(list(model.POOL) if rng.random() < 0.04 else REMOTES + INNERS)
-        place = mapping.place if mapping else beside
-        packet = udp_packet(Place(remote, 53), place, self.payload((1431, 1432, 1433, 1472)), rng.randrange(65536))
-        packet[1] = rng.choice((0, 0, 0x2E, 0xFF))
-        with_sum(packet)
-        if mapping is not None and rng.random() < 0.2:
-            packet = with_sums_to_zero(rng, packet, False, Place(mapping.inner.address, mapping.inner.port))
-        elif rng.random() < 0.25:
-            packet = edited(rng, packet)
-        self.add(PUBLIC, packet + rng.randbytes(rng.choice((0, 0, 0, 1, 30))))
-
-    def other(self) -> None:
-        """A tick, a change of configuration, or bytes of any kind."""
-        kind = self.rng.choice((TICK, TICK, CHANGE, SOFTWIRE, PUBLIC))
-        self.add(kind, b"" if kind == TICK else self.payload((19, 20, 40)))
-
-    def bad(self) -> None:
-        """A record that is none by one thing alone, which ends the treated part of the input, and one behind it."""
-        moment = self.state.clock
-        late = self.rng.choice((model.LAST_INPUT_MOMENT + 1, 1 << 63, (1 << 64) - 1))
-        head = struct.pack(">BQ", SOFTWIRE, moment)
-        kinds = (
-            model.frame(self.rng.choice((0, 5, 255)), moment, b""),
-            model.frame(TICK, moment, b"\0"),
-            model.frame(self.rng.choice((SOFTWIRE, PUBLIC, TICK, CHANGE)), late, b""),
-            struct.pack(">I", self.rng.randrange(9)) + head,
-            struct.pack(">I", self.rng.choice((65585, 65586, 1 << 16, 1 << 31))) + head + bytes(65580),
-            struct.pack(">I", self.rng.choice((0xA1B2_C3D4, 0xD4C3_B2A1))) + bytes(20),  # the head of a capture file
-        )
-        self.pieces.append(self.rng.choice(kinds))
-        self.outbound()
-
-
-def ordinary(rng: random.Random) -> Session:
-    """Records of every kind, few subscribers and ports."""
-    session = Session(rng)
-    for _ in range(rng.randint(1, 60)):
-        step = rng.random()
-        (session.outbound if step < 0.65 else session.reply if step < 0.88 else session.other)()
-    if rng.random() < 0.15:
-        session.bad()
-    return session
-
-
-def mutated(rng: random.Random) -> Session:
-    """An ordinary input after random changes of its bytes, and records that come twice."""
-    session = ordinary(rng)
-    for _ in range(rng.randint(1, 4)):
-        at = rng.randrange(len(session.pieces))
-        piece = bytearray(session.pieces[at])
-        spot = rng.randrange(len(piece))
-        change = rng.random()
-        if change < 0.25:
-            session.pieces.insert(at, rng.choice(session.pieces))
-        elif change < 0.9:
-            piece[spot] = rng.choice((piece[spot] ^ 1 << rng.randrange(8), rng.randrange(256)))
-            session.pieces[at] = bytes(piece)
-        else:
-            session.pieces[at] = bytes(piece[:spot] + piece[spot + 1 :])
-    return session
-
-
-def full_block(rng: random.Random) -> Session:
-    """A subscriber with more inner ports than its block has; some mappings go, and their ports come again."""
-    session = Session(rng)
-    ports = rng.sample(range(65536), model.BLOCK_SIZE + 3)
-    for port in ports:
-        session.plain(softwire_of(0, rng.choice((2, 3))), port, session.start)
-    for port in rng.sample(ports, 200):
-        session.plain(softwire_of(0, 2), port, session.start + 150_000)
-    for gap in (299_999, 300_000, 300_000 + rng.randrange(100_000)):
-        for port in rng.sample(ports, 40):
-            session.plain(softwire_of(0, rng.choice((2, 3))), port, session.start + gap)
-    session.add(TICK, b"", session.start + 750_000)
-    for _ in range(20):
-        session.outbound()
-        session.reply()
-    return session
-
-
-def full_pool(rng: random.Random) -> Session:
-    """More subscribers than the pool has blocks. All 504 can close at one moment, which is under the bound of 512."""
-    session = Session(rng)
-    count = len(model.POOL) * len(model.FIRST_PORTS)
-    subscribers = rng.sample(range(65536), count + 40)
-    for subscriber in subscribers[: count + 3]:
-        session.plain(softwire_of(subscriber, 2), 5000, session.start)
-    for gap in (100_000, 200_000):
-        for subscriber in rng.sample(subscribers[:count], 100):
-            session.plain(softwire_of(subscriber, 2), rng.choice((5000, 5001)), session.start + gap)
-    for gap in (300_000, 300_001, 419_999, 420_000, 519_999, 520_000, 620_000):
-        for subscriber in rng.sample(subscribers, 60):
-            session.plain(softwire_of(subscriber, rng.choice((2, 3))), 5000, session.start + gap)
-    session.add(TICK, b"", session.start + 900_000)
-    return session
-
-
-def long_input(rng: random.Random) -> Session:
-    """Long records, some of which end a few bytes before or behind a multiple of 64 KiB of the input."""
-    session = Session(rng)
-    for _ in range(rng.randint(1, 4)):
-        for _ in range(rng.randint(1, 5)):
-            session.outbound()
-        missing = -(sum(map(len, session.pieces)) + 13) % 65536 - rng.randint(-20, 20)
-        session.add(rng.choice((SOFTWIRE, PUBLIC, CHANGE)), rng.randbytes(max(0, min(missing, 65575))))
-        session.reply()
-    if rng.random() < 0.3:
-        session.bad()
-    return session
-
-
-def many_peers(rng: random.Random) -> Session:
-    """A subscriber that sends to more remotes than it may have peers: old mappings are refused, a new one isn't."""
-    session = Session(rng)
-    remotes = range(REMOTES[0], REMOTES[0] + 6000)
-    for port in (5000, 5001, 5002):
-        for remote in remotes:
-            session.plain(softwire_of(0, 2), port, session.start, remote)
-    for port, remote in ((5003, remotes[0]), (5003, remotes[1]), (5000, remotes[0]), (5002, remotes[-1])):
-        session.plain(softwire_of(0, 3), port, session.start + 1, remote)
-        session.plain(softwire_of(0, 2), port, session.start + 1, remote)
-    for remote in rng.sample(remotes, 30):
-        session.plain(softwire_of(0, 2), 5000, session.start + 1, remote)
-    for gap in (299_999, 300_000, 300_001):
-        for port in (5000, 5001, 5002, 5003):
-            session.plain(softwire_of(0, 2), port, session.start + gap, rng.choice(remotes))
-    return session
-
-
-LOG_PREFIXES = [Prefix(softwire_of(0, 0), 56), Prefix(softwire_of(1, 0), 56), Prefix(0, 0), Prefix((1 << 128) - 1, 128)]
-ODD_PREFIXES = [Prefix(1, 127), Prefix(softwire_of(0, 1), 56), Prefix(0, 129), Prefix(0, 255), Prefix(1, 0)]
-LOG_PORTS = (0, 1, 1023, 1024, 1535, 1536, 2047, 65535)
-LOG_MOMENTS = (0, 1, 1_000_000, 1_000_001, 2_000_000, model.LAST_MOMENT, model.LAST_MOMENT)
-
-
-def random_log(rng: random.Random) -> bytes:
-    """Mostly records that follow from those before them; some damaged, changed or cut."""
-    log = b""
-    leases: List[Lease] = []
-    for _ in range(rng.randint(1, 14)):
-        still_open = [lease for lease in leases if lease.until is None]
-        is_odd = rng.random() < 0.05
-        if still_open and rng.random() < 0.45:
-            closed = rng.choice(still_open)
-            record = closed.record(model.CLOSING, max(0, closed.since + rng.choice((-1, 0, 0, 0, 1, 1, 300_000))))
-        else:
-            ports = sorted(rng.choices(LOG_PORTS, k=2), reverse=rng.random() < 0.05)
-            owner = rng.choice(ODD_PREFIXES if rng.random() < 0.05 else LOG_PREFIXES)
-            opened = Lease(owner, rng.choice(model.POOL), *ports, since=rng.choice(LOG_MOMENTS))
-            event = rng.choice((0, 15, 17, 18)) if is_odd else model.OPENING
-            record = opened.record(event, opened.since + (rng.choice((0, 1, 1 << 62)) if is_odd else 0))
-        if model.tells(record, leases) or rng.random() < 0.25:
-            log += record
-    if rng.random() < 0.15:
-        at = rng.randrange(len(log) + 1)
-        log = log[:at] + rng.randbytes(rng.randrange(2)) + log[at + rng.randrange(2) :]
-    return log
-
-
-def long_log(rng: random.Random) -> bytes:
-    """Some thousand records, which may be damaged at one spot."""
-    opened = Lease(LOG_PREFIXES[0], model.POOL[0], 1024, 1535, 1_000_000)
-    pair = opened.record(model.OPENING, 1_000_000) + opened.record(model.CLOSING, 1_300_000)
-    log = pair * rng.randint(1020, 1030) + opened.record(model.OPENING, 2_000_000) * rng.randrange(2)
-    if rng.random() < 0.5:
-        at = rng.choice((len(log) - 1, rng.randint(len(log) - 600, len(log) - 1), rng.randrange(len(log))))
-        log = log[:at] + rng.choice((b"", b"\xff" + log[at + 1 :]))
-    return log
-
-
-NUMBERS = (
-    "0 1024 1535 65535 65536 00065535 00000000000000000000000000001024 1000000 4294967295999 4294967296000 "
-    "04294967295999 66560 4294968320 18446744073709551615 18446744073709551616 18446744073709552640 "
-    "340282366920938463463374607431768212480 +1 -1 1.0 1e3 0x10 1_0 \u0661 \u00b2 1, a"
-).split() + ["", " 1", "1 ", "1\n", "\t1"]
-QUADS = (
-    "192.0.2.8 192.0.2.9 0.0.0.0 255.255.255.255 192.0.2.08 192.0.2.256 192.0.2 192.0.2.8.1 192.0.2.8. .192.0.2.8 "
-    "192..2.8 192.0.2.+8 192.0.2.-8 00.0.2.8 192.0.2.8a 192.0.2.0x8 1921.0.2.8 192.0.2.264 192.0.2.4294967304 "
-    "3221225992 192,0,2,8 192.000.2.8 192.0.2.\u0668 ::ffff:192.0.2.8 localhost"
-).split() + ["", " 192.0.2.8", "192.0.2.8 ", "192.0.2.8\n", "-192.0.2.8"]
-COMMANDS = "run trace leases init serve check drill Run LEASES -h --help".split() + ["", " run", "leases ", "run\n"]
-PATHS = ["config", "log", "in", "out", "log2", "no such", "-", "-log", "--log", "", "log\udcff", "l\u00f6g", "a-b"]
-
-
-def random_words(rng: random.Random) -> List[str]:
-    """A command with a word or two changed, left out or added. The paths of a run are different files."""
-    trace = ["trace", "log", rng.choice(QUADS[:4]), rng.choice(NUMBERS[:4]), rng.choice(NUMBERS[:10])]
-    words = list(rng.choice((trace, trace, ["leases", "log"], RUN)))
-    choices = [COMMANDS, PATHS, QUADS, NUMBERS, NUMBERS] if words[0] == "trace" else [COMMANDS] + [PATHS] * 4
-    for _ in range(rng.choice((0, 1, 1, 1, 2))):
-        at = rng.randrange(len(words))
-        words[at] = rng.choice(choices[at])
-    change = rng.random()
-    if change < 0.08:
-        del words[rng.randrange(len(words)) :]
-    elif change < 0.16:
-        words.insert(rng.randrange(len(words) + 1), rng.choice(PATHS + NUMBERS))
-    same_files = words[:1] == ["run"] and len(set(words)) < len(words)
-    return random_words(rng) if same_files else words
-
-
-def trace_words(rng: random.Random, leases: Sequence[Lease]) -> List[str]:
-    """A query at or beside the ends of a lease's ports and of its time."""
-    lease = rng.choice(leases) if leases else Lease(LOG_PREFIXES[0], model.POOL[0], 1024, 1535, 1_000_000)
-    until = rng.choice((lease.since, model.LAST_MOMENT)) if lease.until is None else lease.until
-    port = rng.choice((lease.first, lease.last, rng.randint(lease.first, lease.last))) + rng.choice((-1, 0, 0, 0, 1))
-    moment = rng.choice((lease.since, until, rng.randint(lease.since, until))) + rng.choice((-1, 0, 0, 1))
-    address = lease.address + rng.choice((0, 0, 0, 0, 0, 1, -1))
-    port, moment = max(0, min(port, 65535)), max(0, min(moment, model.LAST_MOMENT))
-    return ["trace", "log", model.quad_text(address), str(port), str(moment)]
 
 
 class Comparison:
     """Calls the program, and counts and prints where it differs from the model."""
 
-    def __init__(self, program: str, folder: str) -> None:
-        self.program = os.path.abspath(program)
+    def __init__(self, program: Optional[str], folder: str) -> None:
+        self.program = program and os.path.abspath(program)
         self.folder = folder
         self.passed = self.failed = 0
         self.reports: Set[str] = set()
@@ -453,6 +42,7 @@ class Comparison:
         for name, data in files.items():
             with open(os.path.join(self.folder, name), "wb") as out:
                 out.write(data)
+        assert self.program is not None
         call = [self.program, *words]
         done = subprocess.run(
             call, cwd=self.folder, stdin=subprocess.DEVNULL, capture_output=True, check=False, timeout=60
@@ -464,13 +54,28 @@ class Comparison:
             os.remove(entry.path)
         return done.returncode, done.stdout, done.stderr, left
 
+    def check(self, label: str, words: List[str], files: Files, wanted: model.Answer) -> None:
+        """One case with what is wanted of it, by the model and by the program, where there is one."""
+        answered = model.answer(words, files)
+        found = [f"the model answers {answered.report!r}"] if answered != wanted else []
+        if self.program is not None:
+            found += self.differences(words, files, wanted)
+        self.count(label, words, files, found)
+
+    def count(self, label: str, words: List[str], files: Files, found: List[str], pieces: Sequence[bytes] = ()) -> None:
+        if found:
+            self.failed += 1
+            self.show(label, words, files, pieces, found)
+        else:
+            self.passed += 1
+
     def differences(self, words: List[str], files: Files, wanted: model.Answer) -> List[str]:
         status, report, errors, left = self.called(words, files)
         found = []
         if status != wanted.status:
-            found.append(f"status {status}, by the model {wanted.status}")
+            found.append(f"status {status}, wanted {wanted.status}")
         if report != wanted.report.encode():
-            found.append(f"printed {report[:400]!r}, by the model {wanted.report[:400]!r}")
+            found.append(f"printed {report[:400]!r}, wanted {wanted.report[:400]!r}")
         if errors:
             found.append(f"standard error has {errors[:200]!r}")
         for name in sorted(left.keys() | wanted.files.keys()):
@@ -481,12 +86,7 @@ class Comparison:
         """One comparison; gives the model's answer. A difference is shown with few pieces of the input."""
         wanted = model.answer(words, files)
         self.reports.update(re.findall("^(?:fault|drop) [A-Za-z]+|^[a-z]+", wanted.report, re.MULTILINE))
-        found = self.differences(words, files, wanted)
-        if found:
-            self.failed += 1
-            self.show(label, words, files, pieces, found)
-        else:
-            self.passed += 1
+        self.count(label, words, files, self.differences(words, files, wanted), pieces)
         return wanted
 
     def miss(self) -> None:
@@ -529,10 +129,21 @@ def file_differences(name: str, got: Optional[bytes], wanted: Optional[bytes]) -
     if got == wanted:
         return []
     if got is None or wanted is None:
-        return [f"{name} is {'missing' if got is None else 'there'}, by the model it isn't"]
+        return [f"{name} is {'missing' if got is None else 'there'}, and should not be"]
     at = len(os.path.commonprefix([got, wanted]))
-    shown = f"from {at} on {got[at : at + 40].hex()}, by the model {wanted[at : at + 40].hex()}"
-    return [f"{name} has {len(got)} bytes, by the model {len(wanted)}; {shown}"]
+    shown = f"from {at} on {got[at : at + 40].hex()}, wanted {wanted[at : at + 40].hex()}"
+    return [f"{name} has {len(got)} bytes, wanted {len(wanted)}; {shown}"]
+
+
+def check_cases(comparison: Comparison) -> None:
+    """The cases that were worked out by hand."""
+    for case in cases():
+        wanted = model.Answer(case.status, case.report(), case.after())
+        comparison.check(case.name, list(case.words), case.before(), wanted)
+    for refusal in refusals():
+        files: Files = {"config": b"", "in": b"".join(refusal.records)}
+        wanted = model.Answer(0, refusal.report(), model.answer(RUN, files).files)
+        comparison.check(refusal.name, RUN, files, wanted)
 
 
 def compare_run(comparison: Comparison, label: str, rng: random.Random, session: Session, traces: int) -> None:
@@ -544,7 +155,7 @@ def compare_run(comparison: Comparison, label: str, rng: random.Random, session:
     if change < 0.03:
         files["config"] = rng.choice((b"\n", b"x", b"block_size = 512\n", bytes(65537)))
     elif change < 0.06:
-        files["log"] = random_log(rng)
+        files["log"] = streams.random_log(rng)
     elif change < 0.08:
         del files[rng.choice(("config", "in"))]
     answer = comparison.compare(label, RUN, files, session.pieces if "in" in files else ())
@@ -556,7 +167,7 @@ def compare_log(comparison: Comparison, label: str, rng: random.Random, log: byt
     comparison.compare(label, ["leases", "log"], {"log": log})
     leases, _ = model.leases_of(log)
     for _ in range(traces):
-        comparison.compare(label, trace_words(rng, leases), {"log": log})
+        comparison.compare(label, streams.trace_words(rng, leases), {"log": log})
 
 
 def compare_cuts(comparison: Comparison, label: str, rng: random.Random) -> None:
@@ -571,7 +182,7 @@ def compare_cuts(comparison: Comparison, label: str, rng: random.Random) -> None
 
 def compare_peers(comparison: Comparison, seed: int) -> None:
     """The run of a subscriber with too many peers, and what its log tells."""
-    session = many_peers(random.Random(seed))
+    session = streams.many_peers(random.Random(seed))
     files = {"config": b"", "in": b"".join(session.pieces)}
     answer = comparison.compare(f"seed {seed}, peers", RUN, files, session.pieces)
     comparison.compare(f"seed {seed}, peers", ["leases", "log"], {"log": answer.files["log"]})
@@ -581,37 +192,46 @@ def compare_stream(comparison: Comparison, seed: int, number: int, traces: int) 
     """One numbered stream: a run with its log, a log of its own, and words."""
     rng = random.Random(f"{seed} {number}")
     label = f"seed {seed}, stream {number}"
-    rare = {10: full_block, 30: long_input, 60: full_pool, 80: long_input}
-    usual = ordinary if rng.random() < 0.75 else mutated
+    rare = {10: streams.full_block, 30: streams.long_input, 60: streams.full_pool, 80: streams.long_input}
+    usual = streams.ordinary if rng.random() < 0.75 else streams.mutated
     compare_run(comparison, label, rng, rare.get(number % 100, usual)(rng), traces)
     if number % 100 == 40:
         compare_cuts(comparison, label, rng)
     if number % 50 == 45:
-        compare_log(comparison, f"{label}, a long log", rng, long_log(rng), 2)
-    compare_log(comparison, f"{label}, a log", rng, random_log(rng), traces // 4)
+        compare_log(comparison, f"{label}, a long log", rng, streams.long_log(rng), 2)
+    compare_log(comparison, f"{label}, a log", rng, streams.random_log(rng), traces // 4)
     for _ in range(3):
-        files = {"config": b"", "log": rng.choice((b"", random_log(rng))), "in": b"", "out": b"old"}
-        comparison.compare(f"{label}, words", random_words(rng), files)
+        files = {"config": b"", "log": rng.choice((b"", streams.random_log(rng))), "in": b"", "out": b"old"}
+        comparison.compare(f"{label}, words", streams.random_words(rng), files)
+
+
+def compare_all(comparison: Comparison, seed: int, count: int, traces: int) -> None:
+    """All random streams."""
+    for number in range(count):
+        compare_stream(comparison, seed, number, traces)
+    compare_peers(comparison, seed)
+    if count >= ALL_KINDS:
+        comparison.miss()
 
 
 def main() -> int:
-    parser = argparse.ArgumentParser(description="Compares the built program with the plain model on random inputs.")
-    parser.add_argument("program")
+    parser = argparse.ArgumentParser(description="Compares the built program with the plain model.")
+    parser.add_argument("program", nargs="?", help="none: the cases alone, on the model")
     parser.add_argument("--seed", type=int, default=1)
     parser.add_argument("--streams", type=int, default=300)
     parser.add_argument("--only", type=int, metavar="NUMBER", help="one stream by its number, to see it again")
     parser.add_argument("--traces", type=int, default=20, help="queries of each run's log")
     arguments = parser.parse_args()
-    if not os.access(arguments.program, os.X_OK):
+    if arguments.program is not None and not os.access(arguments.program, os.X_OK):
         parser.error(f"no program at {arguments.program}: run scripts/build.sh")
     with tempfile.TemporaryDirectory() as folder:
         comparison = Comparison(arguments.program, folder)
-        for number in range(arguments.streams) if arguments.only is None else [arguments.only]:
-            compare_stream(comparison, arguments.seed, number, arguments.traces)
-        if arguments.only is None:
-            compare_peers(comparison, arguments.seed)
-        if arguments.only is None and arguments.streams >= ALL_KINDS:
-            comparison.miss()
+        if arguments.only is not None:
+            compare_stream(comparison, arguments.seed, arguments.only, arguments.traces)
+        else:
+            check_cases(comparison)
+        if arguments.program is not None and arguments.only is None:
+            compare_all(comparison, arguments.seed, arguments.streams, arguments.traces)
     print(f"{comparison.passed} passed, {comparison.failed} failed")
     return 1 if comparison.failed else 0
 

@@ -1,13 +1,17 @@
+#!/usr/bin/env python3
 """A plain model of the program, written from its rules alone: what each command answers, and what it leaves in files.
 
-It is slow and short on purpose. Lists and dictionaries are searched, checksums are sums modulo 65535, and whole files
-are looked at; it shares no code and no order of work with the program.
+It is slow and short on purpose. Lists and dictionaries are searched, the checksums of headers are computed anew, and
+whole files are looked at; it shares no code and no order of work with the program. Called with the program's words it
+does what the program does on plain files.
 """
 
 from __future__ import annotations
 
+import os
 import re
 import struct
+import sys
 from collections import Counter
 from dataclasses import dataclass, field
 from typing import Dict, List, NamedTuple, Optional, Tuple
@@ -23,16 +27,21 @@ IDLE = 300_000  # how long a UDP peer is kept (RFC 4787 4.3 asks for two minutes
 HOLD = 120_000  # how long a closed block is kept from other subscribers (RFC 6888 3, REQ-8)
 MAX_PEERS = 16_384
 MAX_CLOSINGS = 512  # at one moment; the pool has 504 blocks, so no run comes to it
-MTU = 1500
+SOFTWIRE_MTU = PUBLIC_MTU = 1500
 LAST_INPUT_MOMENT = 4_294_963_695_999
 LAST_MOMENT = 4_294_967_295_999
 
 SOFTWIRE, PUBLIC, TICK, CHANGE = 1, 2, 3, 4
-IPV4_IN_IPV6, UDP = 4, 17
+HOP_BY_HOP, IPV4_IN_IPV6, UDP, FRAGMENT, DESTINATION_OPTIONS = 0, 4, 17, 44, 60
+IPV6_HEADER, IPV4_HEADER, UDP_HEADER, FRAGMENT_HEADER = 40, 20, 8, 8
+MORE_FRAGMENTS, FRAGMENT_OFFSET, DONT_FRAGMENT = 0x2000, 0x1FFF, 0x4000
 OPENING, CLOSING = 16, 17  # natEvent (RFC 8158)
 RECORD = struct.Struct(">QB16sBIHH")
 # The causes that are given today, in the order of the report.
-CAUSES = ("Settling", "NoProtocol", "QuotaPeers", "QuotaBlocks", "PoolEmpty", "NoMapping", "BadChange")
+CAUSES = (
+    "Settling BadPacket NotUs NotTunnel UnknownSubscriber Options NoRoute NoProtocol TtlSpent TooBig "
+    "QuotaPeers QuotaBlocks PoolEmpty NoMapping BadChange"
+).split()
 
 Files = Dict[str, bytes]
 
@@ -116,32 +125,18 @@ def sum_of(data: bytes) -> int:
     return sum(struct.unpack(f">{len(data) // 2}H", data))
 
 
-def updated(old_sum: int, old: bytes, new: bytes) -> int:
-    """A checksum field after `old` became `new` (RFC 1624, equation 3).
-
-    Its sum counts modulo 65535. Of both zeros the field gets the negative one only where all that is added is 0.
-    """
-    if old_sum == 0xFFFF and set(old) == {0xFF} and set(new) == {0}:
-        return 0xFFFF
-    return (old_sum + sum_of(old) - sum_of(new)) % 0xFFFF
+def checksum(data: bytes) -> int:
+    """The Internet checksum of an even number of bytes, computed from all of them (RFC 1071)."""
+    total = sum_of(data)
+    while total > 0xFFFF:
+        total = (total & 0xFFFF) + (total >> 16)
+    return 0xFFFF - total
 
 
-def udp_packet(data: bytes) -> bytes:
-    """The IPv4 packet that stands at the front, if it is whole, plain UDP with a hop to spare; else a drop."""
-    total = word(data, 2)
-    sound = (
-        len(data) >= 20
-        and data[0] == 0x45  # version 4 without options
-        and 20 <= total <= len(data)
-        and sum_of(data[:20]) % 0xFFFF == 0  # RFC 1071
-        and word(data, 6) & 0x3FFF == 0  # neither MF nor an offset
-        and data[8] >= 2
-        and data[9] == UDP
-        and 8 <= word(data, 24) <= total - 20  # RFC 768
-    )
-    if not sound:
-        raise Drop("NoProtocol")
-    return data[:total]
+def require(holds: bool, cause: str) -> None:
+    """Drops the packet for this cause unless the rule holds. The first rule that doesn't hold decides."""
+    if not holds:
+        raise Drop(cause)
 
 
 def is_routed(address: int) -> bool:
@@ -149,54 +144,97 @@ def is_routed(address: int) -> bool:
     return 1 <= octet <= 223 and octet != 127
 
 
-def decapsulated(data: bytes) -> Tuple[int, bytes]:
-    """The softwire of a subscriber's packet (RFC 6333, RFC 8200) and the UDP packet in it, or a drop."""
-    length = word(data, 4)
-    sound = (
-        len(data) >= 40
-        and data[0] >> 4 == 6
-        and length <= len(data) - 40
-        and data[6] == IPV4_IN_IPV6
-        and number(data, 24, 16) == AFTR
-        and number(data, 8, 16) >> (128 - AGGREGATE_LENGTH) == AGGREGATE >> (128 - AGGREGATE_LENGTH)
-    )
-    if not sound:
-        raise Drop("NoProtocol")
-    packet = udp_packet(data[40 : 40 + length])
+def is_piece(packet: bytes) -> bool:
+    return word(packet, 6) & (MORE_FRAGMENTS | FRAGMENT_OFFSET) != 0
+
+
+def ipv6_payload(data: bytes) -> bytes:
+    """The payload of the IPv6 packet at the front (RFC 8200 3). What stands behind it doesn't count."""
+    require(len(data) >= IPV6_HEADER and data[0] >> 4 == 6, "BadPacket")
+    end = IPV6_HEADER + word(data, 4)
+    require(end <= len(data), "BadPacket")
+    return data[IPV6_HEADER:end]
+
+
+def behind_options(header: int, payload: bytes) -> Tuple[int, bytes]:
+    """The first header that isn't Hop-by-Hop or Destination Options, and the bytes from it on (RFC 8200 4.3, 4.6)."""
+    while header in (HOP_BY_HOP, DESTINATION_OPTIONS):
+        require(len(payload) >= 2 and len(payload) >= 8 + 8 * payload[1], "BadPacket")
+        header, payload = payload[0], payload[8 + 8 * payload[1] :]
+    require(header != FRAGMENT or len(payload) >= FRAGMENT_HEADER, "BadPacket")
+    return header, payload
+
+
+def ipv4_packet(data: bytes) -> bytes:
+    """The IPv4 packet at the front (RFC 791 3.1), without options. What stands behind it doesn't count."""
+    require(len(data) >= IPV4_HEADER and data[0] >> 4 == 4, "BadPacket")
+    header, total = 4 * (data[0] & 0xF), word(data, 2)
+    require(IPV4_HEADER <= header <= len(data), "BadPacket")
+    require(header <= total <= len(data), "BadPacket")
+    require(checksum(data[:header]) == 0, "BadPacket")
+    require(header == IPV4_HEADER, "Options")
+    return data[:total]
+
+
+def require_udp(packet: bytes) -> None:
+    """The transport of an IPv4 packet: a UDP datagram (RFC 768) that has a hop to spare."""
+    require(packet[9] == UDP, "NoProtocol")
+    require(packet[8] >= 2, "TtlSpent")
+    room = len(packet) - IPV4_HEADER
+    require(room >= UDP_HEADER and UDP_HEADER <= word(packet, 24) <= room, "BadPacket")
+
+
+def from_softwire(data: bytes) -> Tuple[int, bytes]:
+    """The softwire of a subscriber's packet (RFC 6333) and the UDP packet in it, or the first drop that applies."""
+    payload = ipv6_payload(data)
+    require(number(data, 24, 16) == AFTR, "NotUs")
+    header, payload = behind_options(data[6], payload)
+    require(header in (IPV4_IN_IPV6, FRAGMENT), "NotTunnel")
+    softwire = number(data, 8, 16)
+    require(softwire >> (128 - AGGREGATE_LENGTH) == AGGREGATE >> (128 - AGGREGATE_LENGTH), "UnknownSubscriber")
+    require(header != FRAGMENT, "NoProtocol")
+    packet = ipv4_packet(payload)
+    require(not is_piece(packet), "NoProtocol")
     source, destination = number(packet, 12, 4), number(packet, 16, 4)
-    for_others = destination in POOL or 0xC000_0000 <= destination <= 0xC000_0007  # RFC 6333 5.7
-    if len(packet) > MTU or not is_routed(source) or not is_routed(destination) or for_others:
-        raise Drop("NoProtocol")
-    return number(data, 8, 16), packet
+    is_tunnel = 0xC000_0000 <= destination <= 0xC000_0007  # 192.0.0.0/29 (RFC 6333 5.7)
+    require(is_routed(source) and is_routed(destination) and not is_tunnel, "NoRoute")
+    require_udp(packet)
+    is_whole = destination in POOL or len(packet) <= PUBLIC_MTU
+    require(is_whole or word(packet, 6) & DONT_FRAGMENT == 0, "TooBig")
+    require(is_whole and destination not in POOL, "NoProtocol")
+    return softwire, packet
 
 
 def from_public(data: bytes) -> bytes:
-    """The UDP packet of the public side to the pool that fits a softwire, or a drop."""
-    packet = udp_packet(data)
-    source = number(packet, 12, 4)
-    to_pool = number(packet, 16, 4) in POOL
-    if len(packet) > MTU - 40 or not to_pool or source in POOL or not is_routed(source):
-        raise Drop("NoProtocol")
+    """The UDP packet of the public side to the pool, or the first drop that applies."""
+    packet = ipv4_packet(data)
+    source, destination = number(packet, 12, 4), number(packet, 16, 4)
+    require(destination in POOL, "NotUs")
+    require(not is_piece(packet), "NoProtocol")
+    require(is_routed(source) and source not in POOL, "NoRoute")
+    require_udp(packet)
     return packet
 
 
 def moved(packet: bytes, is_source: bool, place: Place) -> bytes:
-    """The packet with this place as source or destination and one hop less, its checksums updated."""
+    """The packet with this place as source or destination and one hop less.
+
+    Its header's checksum is computed anew. That of the datagram may have been wrong before, and then is as wrong
+    afterwards: it changes by what is added and taken away, modulo 65535 (RFC 1624). None stays none, and a sum of 0 is
+    sent as its other form (RFC 768).
+    """
     address_at, port_at = (12, 20) if is_source else (16, 22)
     out = bytearray(packet)
     out[8] -= 1
-    struct.pack_into(">I", out, address_at, place.address)
-    struct.pack_into(">H", out, port_at, place.port)
-
-    def parts(data: bytes, *ranges: Tuple[int, int]) -> bytes:
-        return b"".join(bytes(data[at : at + size]) for at, size in ranges)
-
-    ip_parts = ((8, 2), (address_at, 4))
-    udp_parts = ((address_at, 4), (port_at, 2))
-    struct.pack_into(">H", out, 10, updated(word(packet, 10), parts(packet, *ip_parts), parts(out, *ip_parts)))
-    if word(packet, 26) != 0:  # no checksum stays none, and a sum of 0 is sent as its other form (RFC 768)
-        new_sum = updated(word(packet, 26), parts(packet, *udp_parts), parts(out, *udp_parts))
-        struct.pack_into(">H", out, 26, new_sum or 0xFFFF)
+    out[address_at : address_at + 4] = place.address.to_bytes(4, "big")
+    out[port_at : port_at + 2] = place.port.to_bytes(2, "big")
+    out[10:12] = bytes(2)
+    out[10:12] = checksum(bytes(out[:IPV4_HEADER])).to_bytes(2, "big")
+    if word(packet, 26) != 0:
+        taken, added = (
+            sum_of(data[address_at : address_at + 4]) + word(data, port_at) for data in (packet, bytes(out))
+        )
+        out[26:28] = ((word(packet, 26) + taken - added) % 0xFFFF or 0xFFFF).to_bytes(2, "big")
     return bytes(out)
 
 
@@ -272,7 +310,7 @@ class Translator:
         if self.clock == 0:
             raise Drop("Settling")
         if record.kind == SOFTWIRE:
-            self.outbound(*decapsulated(record.body))
+            self.outbound(*from_softwire(record.body))
         else:
             self.inbound(from_public(record.body))
 
@@ -289,13 +327,11 @@ class Translator:
 
     def inbound(self, packet: bytes) -> None:
         place = Place(number(packet, 16, 4), word(packet, 22))
-        for mapping in self.mappings.values():
-            if mapping.place == place:
-                inner = mapping.inner
-                delivered = moved(packet, False, Place(inner.address, inner.port))
-                self.send(SOFTWIRE, encapsulated(delivered, inner.softwire))
-                return
-        raise Drop("NoMapping")
+        inners = [mapping.inner for mapping in self.mappings.values() if mapping.place == place]
+        require(len(inners) == 1, "NoMapping")
+        whole = encapsulated(moved(packet, False, Place(inners[0].address, inners[0].port)), inners[0].softwire)
+        require(len(whole) <= SOFTWIRE_MTU, "NoProtocol")
+        self.send(SOFTWIRE, whole)
 
     def peers_of(self, owner: Prefix) -> int:
         return sum(len(row.deadlines) for inner, row in self.mappings.items() if subscriber_of(inner.softwire) == owner)
@@ -476,3 +512,33 @@ def query(words: List[str], files: Files) -> Tuple[int, str]:
         return 0, "".join(map(lease_line, leases))
     address = int.from_bytes(bytes(int(octet) for octet in words[2].split(".")), "big")
     return 0, trace_line(leases, Place(address, int(words[3])), int(words[4]))
+
+
+# ---- on real files
+
+
+def paths_of(words: List[str]) -> List[str]:
+    """The files that a command names."""
+    if not is_command(words):
+        return []
+    return words[1:] if words[0] == "run" else words[1:2]
+
+
+def main(words: List[str]) -> int:
+    """Does what the program does with these words, on plain files that may be read and written."""
+    before: Files = {}
+    for path in paths_of(words):
+        if os.path.exists(path):
+            with open(path, "rb") as source:
+                before[path] = source.read()
+    answered = answer(words, before)
+    for path, data in answered.files.items():
+        if before.get(path) != data:
+            with open(path, "wb") as out:
+                out.write(data)
+    sys.stdout.write(answered.report)
+    return answered.status
+
+
+if __name__ == "__main__":
+    sys.exit(main(sys.argv[1:]))

@@ -1,7 +1,8 @@
 -- The number that each status ends the program with.
 use Rattle.std.specs.Prelude.{ℕ}
 use Rattle.aftr_base.specs.declared.outcome.Status.{Status}
-use Rattle.aftr_base.specs.declared.outcome.Status.TheVariants.{Ok, BadWords, BadConfig, BadInput, ReadFault, LogFault, OutFault, LogDamaged, LogFull, AlreadyThere, NoMemory}
+use Rattle.aftr_base.specs.declared.outcome.Status.TheVariants.{Ok, BadWords, BadConfig, BadInput, ReadFault, LogFault, OutFault}
+use Rattle.aftr_base.specs.declared.outcome.Status.TheVariants.{LogDamaged, LogFull, AlreadyThere, NoMemory}
 
 abbrev pub exit_number : Status → ℕ
 exit_number Ok = 0

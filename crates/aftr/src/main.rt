@@ -2,11 +2,12 @@
 //! The report goes to standard output; nothing goes to standard error.
 #![tactic(auto)]
 
-ghost use Rattle.std.specs.Prelude.{◌≡◌, ◌++◌, length, IfOk, OnErr, None, slice_get, option_and_then};
+ghost use Rattle.std.specs.Prelude.{◌≡◌, length, IfOk, OnErr, None, slice_get, option_and_then};
 ghost use Rattle.std.specs.Option.{option_copied};
-ghost use Rattle.aftr_engine.specs.aftr_engine.Causes.{IsReported, PrintsFault};
-ghost use Rattle.aftr_engine.specs.aftr_engine.Report.{fault_line};
-ghost use Rattle.aftr_engine.specs.aftr_engine.Words.{input_count, command_for};
+ghost use Rattle.plant_io.specs.Uses.{sink_use};
+ghost use Rattle.aftr_engine.specs.words.Words.{input_count, command_for};
+ghost use Rattle.aftr_engine.specs.report.Lines.{fault_line};
+ghost use Rattle.aftr_engine.specs.engine.Reported.{IsPrinted, PrintsFault};
 
 mod ending;
 mod faults;
@@ -80,8 +81,10 @@ fn call<R: Files<File = File> + AllocGlobal, S: Sink>(
     words: &[Word],
     report: &mut S,
 ) -> Result<Outcome, NoMemory>
-    ensures words { IfOk result (λ outcome. outcome.status ≡ Status.BadWords → command_for words.now ≡ None) }
-    ensures fault { S.tells → IfOk result (λ outcome. PrintsFault (S.written report.old) (S.written report.new) outcome.status) }
+    ensures words { IfOk result (λ outcome.
+        outcome.status ≡ Status.BadWords → command_for words.now ≡ None) }
+    ensures fault { IfOk result (λ outcome.
+        PrintsFault (sink_use ⟦<S as Sink>⟧ report.old report.new) outcome.status) }
     ensures unreported { OnErr result (report.new ≡ report.old) }
 {
     let paths = paths_of(words);
@@ -104,8 +107,8 @@ fn call<R: Files<File = File> + AllocGlobal, S: Sink>(
 
 // Memory ran out before the call: the report says so, as the call itself would.
 fn report_no_memory<S: Sink>(report: &mut S) -> Status
-    ensures status { IsReported Status.NoMemory (record { before = S.faults report.old; after = S.faults report.new }) result }
-    ensures text { S.tells → result ≡ Status.NoMemory → S.written report.new ≡ S.written report.old ++ fault_line Status.NoMemory }
+    ensures { IsPrinted (sink_use ⟦<S as Sink>⟧ report.old report.new) Status.NoMemory result
+        (fault_line Status.NoMemory) }
 {
     match report.write(b"fault NoMemory\n") {
         Ok(()) => Status::NoMemory,
@@ -117,7 +120,8 @@ fn run<R: Files<File = File> + Env + AllocGlobal, S: Sink>(
     rt: &R,
     report: &mut S,
 ) -> Result<Outcome, NoMemory>
-    ensures fault { S.tells → IfOk result (λ outcome. PrintsFault (S.written report.old) (S.written report.new) outcome.status) }
+    ensures fault { IfOk result (λ outcome.
+        PrintsFault (sink_use ⟦<S as Sink>⟧ report.old report.new) outcome.status) }
     ensures unreported { OnErr result (report.new ≡ report.old) }
 {
     let words = read_words(rt)?;

@@ -4,7 +4,8 @@ use Rattle.std.specs.Prelude.{codes}
 use Rattle.std.specs.Fmt.{digits}
 use Rattle.aftr_base.specs.declared.outcome.Status.TheVariants.{BadConfig, BadInput, LogFull, AlreadyThere}
 use Rattle.aftr_base.specs.declared.event.DropCause.TheVariants.{NoProtocol, Settling}
-use Rattle.aftr_engine.specs.aftr_engine.Report.{drop_counts, summary, fault_line}
+use Rattle.aftr_base.specs.Drops.{drop_counts}
+use Rattle.aftr_engine.specs.report.Lines.{summary, fault_line}
 
 with_drops : summary 14 10 (drop_counts (NoProtocol ∷ Settling ∷ NoProtocol ∷ NoProtocol ∷ []))
     ≡ codes "records 14\nsent 10\nmarks 0\ndrop Settling 1\ndrop NoProtocol 3\n"

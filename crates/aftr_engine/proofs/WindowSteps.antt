@@ -24,11 +24,17 @@ read_on bytes part end room count rest rest' within fits next =
     let after = part ++ post_of end room bytes in
     let taken : take (end + count) (put_mid end room bytes part) ≡ front ++ take count part =
     take-add end count (front ++ after)
-    ∙ (rw (take_at front after end (length-take-le end bytes within), drop_at front after end (length-take-le end bytes within), take-append-le count part (post_of end room bytes) fits) refl) in
+    ∙ (rw (
+      take_at front after end (length-take-le end bytes within),
+      drop_at front after end
+          (length-take-le end bytes within),
+      take-append-le count part (post_of end room bytes) fits,
+    ) refl) in
     ap (λ (l : List ℕ). l ++ rest') taken ∙ append_assoc front (take count part) rest' ∙ ap (λ (l : List ℕ). front ++ l) (sym next)
 
 pub read_on_if_ok : (bytes part : List ℕ) (end room : ℕ) (rest rest' taken taken' : List ℕ) (r : Result ℕ Failed) → end ≤ length bytes
     → IfOk r (λ (count : ℕ). count ≤ length part) → IfOk r (λ (count : ℕ). TakesNext rest rest' taken taken' (length part) count part)
     → IfOk r (λ (count : ℕ). take (end + count) (put_mid end room bytes part) ++ rest' ≡ take end bytes ++ rest)
-read_on_if_ok bytes part end room rest rest' taken taken' (Ok count) within fits next = read_on bytes part end room count rest rest' within fits next.rest
+read_on_if_ok bytes part end room rest rest' taken taken' (Ok count) within fits next =
+    read_on bytes part end room count rest rest' within fits next.rest
 read_on_if_ok bytes part end room rest rest' taken taken' (Err e) within fits next = tt

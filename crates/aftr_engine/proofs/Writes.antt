@@ -1,16 +1,15 @@
 -- Writes in a row to a sink.
-use Rattle.std.proofs.Common.{◌≡◌, ℕ, ◌+◌, min, Result, Ok, Err, OnErr, List, ◌++◌, length, take, sym, ap, subst, ◌∙◌, append_assoc, arith}
+use Rattle.std.proofs.Common.{◌≡◌, ℕ, ◌+◌, min, Result, Ok, Err, IsErr, List, [], ◌++◌, length, take, sym, ap, ◌∙◌, append_assoc}
+use Rattle.std.proofs.Common.{append-nil, arith}
 use Rattle.std.proofs.lemmas.List.{take-append-le, take_min}
 use Rattle.std.proofs.Math.Seq.{take-append-add}
 use Rattle.plant_io.specs.Sink.{GainsPart}
-
--- what holds holds after a failure
-pub on_err : {T E P : Type 0} (r : Result T E) → P → OnErr r P
-on_err (Ok x) p = tt
-on_err (Err e) p = p
+use Rattle.plant_io.specs.Uses.{SinkUse, Writes, sink_use}
+use Rattle.plant_io.specs.declared.sink.Sink as sink
+use Rattle.plant_io.specs.declared.Failed.{Failed}
 
 -- both pieces were written
-pub both : (a b before then now : List ℕ) → then ≡ before ++ a → now ≡ then ++ b → now ≡ before ++ (a ++ b)
+both : (a b before then now : List ℕ) → then ≡ before ++ a → now ≡ then ++ b → now ≡ before ++ (a ++ b)
 both a b before then now first second =
     second ∙ ap (λ (xs : List ℕ). xs ++ b) first ∙ append_assoc before a b
 
@@ -29,24 +28,41 @@ part_of_second a b before then now first part = (
   both a (take part.0 b) before then now first part.1 ∙ ap (λ (xs : List ℕ). before ++ xs) (sym (take-append-add a b part.0)),
 )
 
--- of a text, all but this rest was written
-pub record SoFar (text rest before now : List ℕ) : Type 0 where
-  pub done : List ℕ
-  pub gained : now ≡ before ++ done
-  pub left : text ≡ done ++ rest
+-- the first piece failed, and so the whole did
+pub first_failed : {T E F U : Type 0} (a b : List ℕ) {u : SinkUse} {e : F} (r : Result T E) → IsErr r
+    → Writes {T = U} a u (Err e) → Writes (a ++ b) u r
+first_failed a b (Ok x) is one = absurd (cc is)
+first_failed a b {u} (Err e) is one = record {
+  all = λ told. tt;
+  part = λ told. part_of_first a b u.past u.now (one.part told);
+  cause = record { later = one.cause.later; failed = one.cause.failed };
+}
 
--- the next piece was written in part
-pub part_written : (text piece rest before now later : List ℕ) → SoFar text (piece ++ rest) before now
-    → GainsPart piece now later → GainsPart text before later
-part_written text piece rest before now later s part =
-    subst (λ (xs : List ℕ). GainsPart xs before later) (sym s.left)
-    (part_of_second s.done (piece ++ rest) before now later s.gained (part_of_first piece rest now later part))
+-- all of a text was written
+abbrev pub HasWritten : List ℕ → SinkUse → Type 0
+HasWritten text u = Writes {T = Unit {0}} {E = Failed} text u (Ok tt)
 
--- the next piece was written whole
-pub piece_written : (text piece rest before now later : List ℕ) → SoFar text (piece ++ rest) before now
-    → later ≡ now ++ piece → SoFar text rest before later
-piece_written text piece rest before now later s written = record {
-  done = s.done ++ piece;
-  gained = both s.done piece before now later s.gained written;
-  left = s.left ∙ sym (append_assoc s.done piece rest);
+-- nothing was written yet
+pub none_written : {S : Type 0} (g : sink.Ghosts S) (s : S) → HasWritten [] (sink_use g s s)
+none_written g s = record {
+  all = λ told. sym (append-nil (g.written s));
+  part = λ told. tt;
+  cause = record { later = omega arith; failed = tt };
+}
+
+-- one piece was written, and then the next, whole or in part
+pub next_written : {S T E F U : Type 0} (g : sink.Ghosts S) (a b : List ℕ) (s₀ s₁ s₂ : S) {x : U} (r : Result T E)
+    → Writes {E = F} a (sink_use g s₀ s₁) (Ok x) → Writes b (sink_use g s₁ s₂) r → Writes (a ++ b) (sink_use g s₀ s₂) r
+next_written g a b s₀ s₁ s₂ (Ok y) one two = record {
+  all = λ told. both a b (g.written s₀) (g.written s₁) (g.written s₂) (one.all told) (two.all told);
+  part = λ told. tt;
+  cause = record { later = omega (arith, one.cause.later, two.cause.later); failed = tt };
+}
+next_written g a b s₀ s₁ s₂ (Err e) one two = record {
+  all = λ told. tt;
+  part = λ told. part_of_second a b (g.written s₀) (g.written s₁) (g.written s₂) (one.all told) (two.part told);
+  cause = record {
+    later = omega (arith, one.cause.later, two.cause.later);
+    failed = omega (arith, one.cause.later, two.cause.failed);
+  };
 }

@@ -1,1 +1,4 @@
-pub mod Ended
+pub mod Reported
+pub mod Running
+pub mod Asking
+pub mod Texts

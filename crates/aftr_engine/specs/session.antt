@@ -1,2 +1,6 @@
+pub mod EndToEnd
+pub mod Stops
+pub mod Fronts
+pub mod Progress
 pub mod Begun
 pub mod UnderWay

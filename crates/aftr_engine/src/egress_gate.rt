@@ -5,21 +5,20 @@ ghost use Rattle.plant_io.specs.Sink.{GainsPart};
 ghost use Rattle.plant_io.specs.Story.{content, sent, IsSettled};
 ghost use Rattle.plant_io.specs.Stops.{StopsLeave};
 ghost use Rattle.aftr_engine.specs.lease_log.Leaves.{LogsFirst};
-ghost use Rattle.aftr_engine.specs.link_records.Frames.{moment_limit};
-ghost use Rattle.aftr_engine.specs.xlate_core.Run.{logged_by};
-ghost use Rattle.aftr_engine.specs.xlate_core.Step.{step};
-ghost use Rattle.aftr_engine.specs.xlate_core.Stepped.{AreShort};
-ghost use Rattle.aftr_engine.specs.aftr_engine.Output.{output};
+ghost use Rattle.aftr_base.specs.Limits.{moment_limit};
+ghost use Rattle.xlate_core.specs.Step.{step};
+ghost use Rattle.xlate_core.specs.Stepped.{AreShort};
+ghost use Rattle.aftr_engine.specs.egress_gate.Output.{output, logged_by};
 
 use crate::lease_log::Journal;
 use crate::link_records::write_record;
-use crate::nat_events::write_records;
+use crate::nat_events::write_events;
 use crate::tally::Tally;
-use crate::xlate_core::{Core, Item, StepOut};
 use aftr_base::{DropCause, Event, List, NoMemory};
 use plant_io::{Failed, Plant};
 use std::alloc::Global;
 use std::marker::Model;
+use xlate_core::{Core, Item, StepOut};
 
 /// Why a record went no further.
 #[derive(Clone, Copy, Debug, PartialEq, Eq)]
@@ -70,17 +69,14 @@ impl Batch {
         event: &Event,
     ) -> Result<Option<DropCause>, NoMemory>
         requires { event.now.at.0 ≤ moment_limit }
-        ensures { IfOk result (λ cause. HasSpelled (step core.old event.now) core.new self.new cause) }
+        ensures { IfOk result (λ cause. HasSpelled
+            (step core.old event.now) core.new self.new cause) }
     {
         self.out.clear();
         self.log.clear();
         self.packets.clear();
         let cause = core.step(alloc, event, &mut self.out)?;
-        write_records(
-            self.out.closings.as_slice(),
-            self.out.openings.as_slice(),
-            &mut self.log,
-        )?;
+        write_events(self.out.log.as_slice(), &mut self.log)?;
         encode(self.out.items.as_slice(), &mut self.packets)?;
         Ok(cause)
     }
@@ -141,25 +137,37 @@ impl Gate {
         ensures state { OnOk result (core.new ≡ (step core.old event.now).state) }
         ensures counts { OnOk result (HasCounted (step core.old event.now) self.old self.new) }
         ensures sent { P.tells → OnOk result
-            (sent (P.story plant.new) ≡ sent (P.story plant.old) ++ output (step core.old event.now).items) }
-        ensures part { P.tells → GainsPart (output (step core.old event.now).items) (sent (P.story plant.old)) (sent (P.story plant.new)) }
+            (sent (P.story plant.new)
+            ≡ sent (P.story plant.old) ++ output (step core.old event.now).items) }
+        ensures part { P.tells → GainsPart (output (step core.old event.now).items)
+            (sent (P.story plant.old)) (sent (P.story plant.new)) }
         ensures log { P.tells → OnOk result
-            (content (P.story plant.new) ≡ content (P.story plant.old) ++ logged_by (step core.old event.now)) }
-        ensures size { OnOk result (journal.new ≡ journal.old + length (logged_by (step core.old event.now))) }
-        ensures stands { P.tells → OnOk result (journal.new ≡ length (content (P.story plant.new))) }
+            (content (P.story plant.new)
+            ≡ content (P.story plant.old) ++ logged_by (step core.old event.now)) }
+        ensures size { OnOk result
+            (journal.new ≡ journal.old + length (logged_by (step core.old event.now))) }
+        ensures stands { P.tells → OnOk result
+            (journal.new ≡ length (content (P.story plant.new))) }
         ensures settled { P.tells → OnOk result (IsSettled (P.story plant.new)) }
         ensures stops { P.tells → StopsLeave (P.story plant.old) (P.story plant.new)
-            (LogsFirst (P.story plant.old) (logged_by (step core.old event.now)) (output (step core.old event.now).items)) }
+            (LogsFirst (P.story plant.old) (logged_by (step core.old event.now))
+            (output (step core.old event.now).items)) }
 
         ensures disk_later { P.disk_faults plant.old ≤ P.disk_faults plant.new }
         ensures outlet_later { P.out_faults plant.old ≤ P.out_faults plant.new }
-        ensures disk { IsErrOf result PassFailed.Log → Rose (P.disk_faults plant.old) (P.disk_faults plant.new) }
-        ensures outlet { IsErrOf result PassFailed.Outlet → Rose (P.out_faults plant.old) (P.out_faults plant.new) }
+        ensures disk { IsErrOf result PassFailed.Log →
+            Rose (P.disk_faults plant.old) (P.disk_faults plant.new) }
+        ensures outlet { IsErrOf result PassFailed.Outlet →
+            Rose (P.out_faults plant.old) (P.out_faults plant.new) }
         ensures memory { IsErrOf result PassFailed.NoMemory → plant.new ≡ plant.old }
         ensures uncounted { OnErr result (self.new ≡ self.old) }
-        ensures unsent { P.tells → IsErrOf result PassFailed.Log → sent (P.story plant.new) ≡ sent (P.story plant.old) }
+        ensures unsent { P.tells → IsErrOf result PassFailed.Log →
+            sent (P.story plant.new) ≡ sent (P.story plant.old) }
         ensures logged { P.tells → IsErrOf result PassFailed.Outlet →
-            content (P.story plant.new) ≡ content (P.story plant.old) ++ logged_by (step core.old event.now) }
+            content (P.story plant.new)
+            ≡ content (P.story plant.old) ++ logged_by (step core.old event.now) }
+        ensures secured { P.tells → IsErrOf result PassFailed.Outlet →
+            IsSettled (P.story plant.new) }
     {
         let cause = self.batch.fill(alloc, core, event)?;
         commit_and_send(
@@ -195,21 +203,30 @@ fn commit_and_send<P: Plant>(
     requires stands { P.tells → journal.old ≡ length (content (P.story plant.old)) }
     requires settled { P.tells → IsSettled (P.story plant.old) }
 
-    ensures sent { P.tells → OnOk result (sent (P.story plant.new) ≡ sent (P.story plant.old) ++ packets.now) }
-    ensures part { P.tells → GainsPart packets.now (sent (P.story plant.old)) (sent (P.story plant.new)) }
-    ensures log { P.tells → OnOk result (content (P.story plant.new) ≡ content (P.story plant.old) ++ records.now) }
+    ensures sent { P.tells → OnOk result
+        (sent (P.story plant.new) ≡ sent (P.story plant.old) ++ packets.now) }
+    ensures part { P.tells → GainsPart packets.now (sent (P.story plant.old))
+        (sent (P.story plant.new)) }
+    ensures log { P.tells → OnOk result
+        (content (P.story plant.new) ≡ content (P.story plant.old) ++ records.now) }
     ensures size { OnOk result (journal.new ≡ journal.old + length records.now) }
     ensures stands { P.tells → OnOk result (journal.new ≡ length (content (P.story plant.new))) }
     ensures settled { P.tells → OnOk result (IsSettled (P.story plant.new)) }
-    ensures stops { P.tells → StopsLeave (P.story plant.old) (P.story plant.new) (LogsFirst (P.story plant.old) records.now packets.now) }
+    ensures stops { P.tells → StopsLeave (P.story plant.old) (P.story plant.new)
+        (LogsFirst (P.story plant.old) records.now packets.now) }
 
     ensures memory { IsErrOf result PassFailed.NoMemory → ⊥ }
-    ensures unsent { P.tells → IsErrOf result PassFailed.Log → sent (P.story plant.new) ≡ sent (P.story plant.old) }
-    ensures logged { P.tells → IsErrOf result PassFailed.Outlet → content (P.story plant.new) ≡ content (P.story plant.old) ++ records.now }
+    ensures unsent { P.tells → IsErrOf result PassFailed.Log →
+        sent (P.story plant.new) ≡ sent (P.story plant.old) }
+    ensures logged { P.tells → IsErrOf result PassFailed.Outlet →
+        content (P.story plant.new) ≡ content (P.story plant.old) ++ records.now }
+    ensures secured { P.tells → IsErrOf result PassFailed.Outlet → IsSettled (P.story plant.new) }
     ensures disk_later { P.disk_faults plant.old ≤ P.disk_faults plant.new }
     ensures outlet_later { P.out_faults plant.old ≤ P.out_faults plant.new }
-    ensures disk { IsErrOf result PassFailed.Log → Rose (P.disk_faults plant.old) (P.disk_faults plant.new) }
-    ensures outlet { IsErrOf result PassFailed.Outlet → Rose (P.out_faults plant.old) (P.out_faults plant.new) }
+    ensures disk { IsErrOf result PassFailed.Log →
+        Rose (P.disk_faults plant.old) (P.disk_faults plant.new) }
+    ensures outlet { IsErrOf result PassFailed.Outlet →
+        Rose (P.out_faults plant.old) (P.out_faults plant.new) }
 {
     match journal.append(plant, records) {
         Ok(()) => {}

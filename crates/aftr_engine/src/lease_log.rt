@@ -9,7 +9,7 @@ mod told;
 
 use plant_io::{Failed, Plant};
 use std::marker::Model;
-pub use told::{LOG_MOMENT_LIMIT, ToldBad, read_told};
+pub use told::{ToldBad, read_told};
 
 /// Where the log's next record is written. Contracts see the log's size, in bytes.
 #[derive(Debug, Drop)]
@@ -41,12 +41,14 @@ impl Journal {
         requires stands { P.tells → self.old ≡ length (content (P.story plant.old)) }
         requires settled { P.tells → IsSettled (P.story plant.old) }
 
-        ensures log { P.tells → OnOk result (content (P.story plant.new) ≡ content (P.story plant.old) ++ records.now) }
+        ensures log { P.tells → OnOk result
+            (content (P.story plant.new) ≡ content (P.story plant.old) ++ records.now) }
         ensures settled { P.tells → OnOk result (IsSettled (P.story plant.new)) }
         ensures size { OnOk result (self.new ≡ self.old + length records.now) }
         ensures stands { P.tells → OnOk result (self.new ≡ length (content (P.story plant.new))) }
         ensures sent { P.tells → sent (P.story plant.new) ≡ sent (P.story plant.old) }
-        ensures stops { P.tells → StopsLeave (P.story plant.old) (P.story plant.new) (KeepsLog (P.story plant.old)) }
+        ensures stops { P.tells → StopsLeave (P.story plant.old) (P.story plant.new)
+            (KeepsLog (P.story plant.old)) }
 
         ensures cause { HasCause (P.disk_faults plant.old) (P.disk_faults plant.new) result }
         ensures outlet { P.out_faults plant.new ≡ P.out_faults plant.old }

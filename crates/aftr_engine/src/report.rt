@@ -1,10 +1,9 @@
 //! The printed report: the counts of a run that ended well, the answer of a trace, the rows of a log, or the line of a
 //! fault. It takes no memory.
-ghost use Rattle.std.specs.Prelude.{◌≡◌, ◌≤◌, ◌+◌, ◌*◌, ◌<◌, ◌%◌, ◌++◌, ◌∷◌, [], length, map, decimal, codes, OnOk, OnErr};
-ghost use Rattle.std.specs.List.{join_with_byte};
-ghost use Rattle.plant_io.specs.Causes.{HasCause};
-ghost use Rattle.plant_io.specs.Sink.{GainsPart};
-ghost use Rattle.aftr_engine.specs.aftr_engine.Report.{line, name_of, drop_line, drop_lines, summary, fault_line, ip4_text, hex_digit, group, groups, prefix_text, trace_line, until_text, lease_line, leases_text};
+ghost use Rattle.std.specs.Prelude.{◌≡◌, ◌≤◌, ◌+◌, ◌*◌, ◌<◌, ◌%◌, ◌++◌, ◌∷◌, [], length, map, decimal, codes};
+ghost use Rattle.plant_io.specs.Uses.{Writes, sink_use};
+ghost use Rattle.aftr_base.specs.Drops.{name_of};
+ghost use Rattle.aftr_engine.specs.report.Lines.{line, drop_line, drop_lines, summary, fault_line, ip4_text, hex_digit, group, groups, prefix_text, trace_line, until_text, lease_line, leases_text};
 
 use crate::tally::Tally;
 use aftr_base::{DropCause, Ip4, Key, LeaseRow, Moment, Status, Subscriber};
@@ -12,98 +11,57 @@ use arrayvec::ArrayString;
 use itoa::Buffer;
 use plant_io::{Failed, Sink};
 
-/// A line in the making. The longest is a lease's, of 120 bytes: a word of 5, an address of 15, two ports of 5 digits,
-/// two moments of 20, a prefix of 43, and what stands between and behind them.
-type Line = ArrayString<160>;
-
-/// The causes in the order of the counts.
-const CAUSES: [DropCause; 23] = [
-    DropCause::Settling,
-    DropCause::Snapped,
-    DropCause::BadPacket,
-    DropCause::NotUs,
-    DropCause::NotTunnel,
-    DropCause::UnknownSubscriber,
-    DropCause::PieceTooMany,
-    DropCause::PieceTooLong,
-    DropCause::PieceOverlap,
-    DropCause::Options,
-    DropCause::NoRoute,
-    DropCause::NoProtocol,
-    DropCause::TtlSpent,
-    DropCause::TooBig,
-    DropCause::QuotaMappings,
-    DropCause::QuotaPeers,
-    DropCause::QuotaBlocks,
-    DropCause::AddressFull,
-    DropCause::PoolEmpty,
-    DropCause::NoMapping,
-    DropCause::Filtered,
-    DropCause::BadChange,
-    DropCause::Lost,
-];
+/// Lines in the making. The longest are a run's: three of up to 28 bytes, and one for each of 23 causes, of up to 44.
+type Lines = ArrayString<1200>;
 
 /// Writes what a run prints that ends well: its counts, and a line for each cause that dropped a record. It fails where
 /// the report does, and then a first part of the text stands there.
 pub fn write_summary<R: Sink>(report: &mut R, tally: &Tally) -> Result<(), Failed>
-    ensures all { R.tells → OnOk result
-        (R.written report.new ≡ R.written report.old ++ summary tally.now.records tally.now.sent tally.now.drops.0) }
-    ensures part { R.tells → OnErr result
-        (GainsPart (summary tally.now.records tally.now.sent tally.now.drops.0)
-        (R.written report.old) (R.written report.new)) }
-    ensures cause { HasCause (R.faults report.old) (R.faults report.new) result }
+    ensures { Writes (summary tally.now.records tally.now.sent tally.now.drops.0)
+        (sink_use ⟦<R as Sink>⟧ report.old report.new) result }
 {
-    write_count(report, "records", tally.records)?;
-    write_count(report, "sent", tally.sent)?;
-    write_count(report, "marks", 0)?;
-    write_drops(report, &CAUSES, &tally.drops.0)
+    let lines = summary(tally);
+    write_text(report, lines.as_str())
 }
 
 /// Writes the line of a status that is a fault: its name, and its numbers or its key. It fails where the report does,
 /// and then a first part of the line stands there.
 pub fn write_fault<R: Sink>(report: &mut R, status: &Status) -> Result<(), Failed>
-    ensures all { R.tells → OnOk result (R.written report.new ≡ R.written report.old ++ fault_line status.now) }
-    ensures part { R.tells → OnErr result
-        (GainsPart (fault_line status.now) (R.written report.old) (R.written report.new)) }
-    ensures cause { HasCause (R.faults report.old) (R.faults report.new) result }
+    ensures { Writes (fault_line status.now) (sink_use ⟦<R as Sink>⟧ report.old report.new) result }
 {
     match status {
-        Status::Ok => report.write(b"fault\n"),
-        Status::BadWords => write_line(report, "fault", "BadWords", &[]),
+        Status::Ok => write_text(report, "fault\n"),
+        Status::BadWords => write_line(report, "BadWords", &[]),
         Status::BadConfig(key) => write_key_fault(report, key),
         Status::BadInput { input, offset } => {
-            write_line(report, "fault", "BadInput", &[u64::from(*input), *offset])
+            write_line(report, "BadInput", &[u64::from(*input), *offset])
         }
-        Status::ReadFault => write_line(report, "fault", "ReadFault", &[]),
-        Status::LogFault => write_line(report, "fault", "LogFault", &[]),
-        Status::OutFault => write_line(report, "fault", "OutFault", &[]),
-        Status::LogDamaged(offset) => write_line(report, "fault", "LogDamaged", &[*offset]),
+        Status::ReadFault => write_line(report, "ReadFault", &[]),
+        Status::LogFault => write_line(report, "LogFault", &[]),
+        Status::OutFault => write_line(report, "OutFault", &[]),
+        Status::LogDamaged(offset) => write_line(report, "LogDamaged", &[*offset]),
         Status::LogFull { tail, need, limit } => {
-            write_line(report, "fault", "LogFull", &[*tail, *need, *limit])
+            write_line(report, "LogFull", &[*tail, *need, *limit])
         }
-        Status::AlreadyThere(size) => write_line(report, "fault", "AlreadyThere", &[*size]),
-        Status::NoMemory => write_line(report, "fault", "NoMemory", &[]),
+        Status::AlreadyThere(size) => write_line(report, "AlreadyThere", &[*size]),
+        Status::NoMemory => write_line(report, "NoMemory", &[]),
     }
 }
 
 /// Writes the answer of a trace: who had the place, or that nobody did. It fails where the report does, and then a first
 /// part of the line stands there.
 pub fn write_trace<R: Sink>(report: &mut R, name: Option<Subscriber>) -> Result<(), Failed>
-    ensures all { R.tells → OnOk result (R.written report.new ≡ R.written report.old ++ trace_line name) }
-    ensures part { R.tells → OnErr result (GainsPart (trace_line name) (R.written report.old) (R.written report.new)) }
-    ensures cause { HasCause (R.faults report.old) (R.faults report.new) result }
+    ensures { Writes (trace_line name) (sink_use ⟦<R as Sink>⟧ report.old report.new) result }
 {
     let line = trace_line(name);
-    report.write(line.as_str().as_bytes())
+    write_text(report, line.as_str())
 }
 
 /// Writes a line for each of these leases. It fails where the report does, and then a first part of the text stands
 /// there.
 pub fn write_leases<R: Sink>(report: &mut R, leases: &[LeaseRow]) -> Result<(), Failed>
-    ensures all { R.tells → OnOk result (R.written report.new ≡ R.written report.old ++ leases_text leases.now) }
-    ensures part { R.tells → OnErr result
-        (GainsPart (leases_text leases.now) (R.written report.old) (R.written report.new)) }
-    ensures cause { HasCause (R.faults report.old) (R.faults report.new) result }
+    ensures { Writes (leases_text leases.now)
+        (sink_use ⟦<R as Sink>⟧ report.old report.new) result }
 {
     for lease in leases {
         write_lease(report, *lease)?;
@@ -113,101 +71,97 @@ pub fn write_leases<R: Sink>(report: &mut R, leases: &[LeaseRow]) -> Result<(), 
 
 /// Writes the line of a lease.
 fn write_lease<R: Sink>(report: &mut R, lease: LeaseRow) -> Result<(), Failed>
-    ensures all { R.tells → OnOk result (R.written report.new ≡ R.written report.old ++ lease_line lease) }
-    ensures part { R.tells → OnErr result (GainsPart (lease_line lease) (R.written report.old) (R.written report.new)) }
-    ensures cause { HasCause (R.faults report.old) (R.faults report.new) result }
+    ensures { Writes (lease_line lease) (sink_use ⟦<R as Sink>⟧ report.old report.new) result }
 {
     let line = lease_line(lease);
-    report.write(line.as_str().as_bytes())
+    write_text(report, line.as_str())
 }
 
 /// Writes the line of a refused key. A key can have any length, so the line goes in pieces.
 fn write_key_fault<R: Sink>(report: &mut R, key: &Key) -> Result<(), Failed>
-    ensures all { R.tells → OnOk result
-        (R.written report.new ≡ R.written report.old ++ line (codes "fault" ∷ codes "BadConfig" ∷ key.now ∷ [])) }
-    ensures part { R.tells → OnErr result
-        (GainsPart (line (codes "fault" ∷ codes "BadConfig" ∷ key.now ∷ []))
-        (R.written report.old) (R.written report.new)) }
-    ensures cause { HasCause (R.faults report.old) (R.faults report.new) result }
+    ensures { Writes (line (codes "fault" ∷ codes "BadConfig" ∷ key.now ∷ []))
+        (sink_use ⟦<R as Sink>⟧ report.old report.new) result }
 {
-    report.write(b"fault BadConfig ")?;
-    report.write(key.as_str().as_bytes())?;
-    report.write(b"\n")
+    write_text(report, "fault BadConfig ")?;
+    write_text(report, key.as_str())?;
+    write_text(report, "\n")
 }
 
-/// Writes a line for each of these causes that has a count above 0.
-fn write_drops<R: Sink>(report: &mut R, causes: &[DropCause], counts: &[u64]) -> Result<(), Failed>
-    requires { length causes.now ≡ length counts.now }
-    ensures all { R.tells → OnOk result
-        (R.written report.new ≡ R.written report.old ++ drop_lines causes.now counts.now) }
-    ensures part { R.tells → OnErr result
-        (GainsPart (drop_lines causes.now counts.now) (R.written report.old) (R.written report.new)) }
-    ensures cause { HasCause (R.faults report.old) (R.faults report.new) result }
-{
-    for (place, cause) in causes.iter().enumerate() {
-        write_drop(report, *cause, counts[place])?;
-    }
-    Ok(())
-}
-
-/// Writes the line of a cause, or nothing where its count is 0.
-fn write_drop<R: Sink>(report: &mut R, cause: DropCause, count: u64) -> Result<(), Failed>
-    ensures all { R.tells → OnOk result (R.written report.new ≡ R.written report.old ++ drop_line cause count) }
-    ensures part { R.tells → OnErr result
-        (GainsPart (drop_line cause count) (R.written report.old) (R.written report.new)) }
-    ensures cause { HasCause (R.faults report.old) (R.faults report.new) result }
-{
-    if count == 0 {
-        return Ok(());
-    }
-    write_line(report, "drop", name_of(cause), &[count])
-}
-
-/// Writes a line of one word and a number.
-fn write_count<R: Sink>(report: &mut R, name: &str, count: u64) -> Result<(), Failed>
-    requires { length name.now ≤ 17 }
-    ensures all { R.tells → OnOk result
-        (R.written report.new ≡ R.written report.old ++ line (name.now ∷ decimal count ∷ [])) }
-    ensures part { R.tells → OnErr result
-        (GainsPart (line (name.now ∷ decimal count ∷ [])) (R.written report.old) (R.written report.new)) }
-    ensures cause { HasCause (R.faults report.old) (R.faults report.new) result }
-{
-    let mut line = Line::new();
-    line.push_str(name);
-    push_number(&mut line, count);
-    line.push('\n');
-    report.write(line.as_str().as_bytes())
-}
-
-/// Writes a line of two words and up to three numbers.
-fn write_line<R: Sink>(
-    report: &mut R,
-    head: &str,
-    name: &str,
-    numbers: &[u64],
-) -> Result<(), Failed>
-    requires head { length head.now ≤ 5 }
+/// Writes the line of a fault of this name with up to three numbers.
+fn write_line<R: Sink>(report: &mut R, name: &str, numbers: &[u64]) -> Result<(), Failed>
     requires name { length name.now ≤ 17 }
     requires numbers { length numbers.now ≤ 3 }
-    ensures all { R.tells → OnOk result
-        (R.written report.new ≡ R.written report.old ++ line (head.now ∷ name.now ∷ map decimal numbers.now)) }
-    ensures part { R.tells → OnErr result
-        (GainsPart (line (head.now ∷ name.now ∷ map decimal numbers.now))
-        (R.written report.old) (R.written report.new)) }
-    ensures cause { HasCause (R.faults report.old) (R.faults report.new) result }
+    ensures { Writes (line (codes "fault" ∷ name.now ∷ map decimal numbers.now))
+        (sink_use ⟦<R as Sink>⟧ report.old report.new) result }
 {
-    let line = line_of(head, name, numbers);
-    report.write(line.as_str().as_bytes())
+    let line = line_of("fault", name, numbers);
+    write_text(report, line.as_str())
+}
+
+/// Writes a text.
+fn write_text<R: Sink>(report: &mut R, text: &str) -> Result<(), Failed>
+    ensures { Writes text.now (sink_use ⟦<R as Sink>⟧ report.old report.new) result }
+{
+    report.write(text.as_bytes())
+}
+
+/// The lines of a run's counts.
+fn summary(tally: &Tally) -> Lines
+    ensures { result.bytes ≡ summary tally.now.records tally.now.sent tally.now.drops.0 }
+{
+    let mut lines = Lines::new();
+    push_count(&mut lines, "records", tally.records);
+    push_count(&mut lines, "sent", tally.sent);
+    push_count(&mut lines, "marks", 0);
+    push_drops(&mut lines, &DropCause::ALL, &tally.drops.0);
+    lines
+}
+
+/// Appends a line of one word and a number.
+fn push_count(lines: &mut Lines, name: &str, count: u64)
+    requires name { length name.now ≤ 17 }
+    requires room { length lines.old.bytes ≤ 1100 }
+    ensures bytes { lines.new.bytes ≡ lines.old.bytes ++ line (name.now ∷ decimal count ∷ []) }
+    ensures room { length lines.new.bytes ≤ length lines.old.bytes + length name.now + 22 }
+{
+    lines.push_str(name);
+    push_number(lines, count);
+    lines.push('\n');
+}
+
+/// Appends a line for each of these causes that has a count above 0.
+fn push_drops(lines: &mut Lines, causes: &[DropCause], counts: &[u64])
+    requires same { length causes.now ≡ length counts.now }
+    requires few { length causes.now ≤ 23 }
+    requires room { length lines.old.bytes ≤ 120 }
+    ensures { lines.new.bytes ≡ lines.old.bytes ++ drop_lines causes.now counts.now }
+{
+    for (place, cause) in causes.iter().enumerate() {
+        push_drop(lines, *cause, counts[place]);
+    }
+}
+
+/// Appends the line of a cause, or nothing where its count is 0.
+fn push_drop(lines: &mut Lines, cause: DropCause, count: u64)
+    requires room { length lines.old.bytes ≤ 1090 }
+    ensures bytes { lines.new.bytes ≡ lines.old.bytes ++ drop_line cause count }
+    ensures room { length lines.new.bytes ≤ length lines.old.bytes + 44 }
+{
+    if count == 0 {
+        return;
+    }
+    lines.push_str("drop ");
+    push_count(lines, cause.name(), count);
 }
 
 /// A line of two words and up to three numbers.
-fn line_of(head: &str, name: &str, numbers: &[u64]) -> Line
+fn line_of(head: &str, name: &str, numbers: &[u64]) -> Lines
     requires head { length head.now ≤ 5 }
     requires name { length name.now ≤ 17 }
     requires numbers { length numbers.now ≤ 3 }
     ensures { result.bytes ≡ line (head.now ∷ name.now ∷ map decimal numbers.now) }
 {
-    let mut line = Line::new();
+    let mut line = Lines::new();
     line.push_str(head);
     line.push(' ');
     line.push_str(name);
@@ -219,12 +173,12 @@ fn line_of(head: &str, name: &str, numbers: &[u64]) -> Line
 }
 
 /// The line that answers a trace.
-fn trace_line(name: Option<Subscriber>) -> Line
+fn trace_line(name: Option<Subscriber>) -> Lines
     ensures { result.bytes ≡ trace_line name }
 {
     match name {
         None => {
-            let mut line = Line::new();
+            let mut line = Lines::new();
             line.push_str("unheld\n");
             line
         }
@@ -233,10 +187,10 @@ fn trace_line(name: Option<Subscriber>) -> Line
 }
 
 /// The line that names a subscriber.
-fn named_line(owner: Subscriber) -> Line
+fn named_line(owner: Subscriber) -> Lines
     ensures { result.bytes ≡ line (codes "named" ∷ prefix_text owner ∷ []) }
 {
-    let mut line = Line::new();
+    let mut line = Lines::new();
     line.push_str("named ");
     push_prefix(&mut line, owner);
     line.push('\n');
@@ -244,10 +198,10 @@ fn named_line(owner: Subscriber) -> Line
 }
 
 /// The line of a lease.
-fn lease_line(lease: LeaseRow) -> Line
+fn lease_line(lease: LeaseRow) -> Lines
     ensures { result.bytes ≡ lease_line lease }
 {
-    let mut line = Line::new();
+    let mut line = Lines::new();
     line.push_str("lease ");
     push_address(&mut line, lease.addr);
     push_number(&mut line, u64::from(lease.first));
@@ -261,8 +215,8 @@ fn lease_line(lease: LeaseRow) -> Line
 }
 
 /// Appends a space and until when a lease lasts, in milliseconds, or that it is open.
-fn push_until(line: &mut Line, until: Option<Moment>)
-    requires { length line.old.bytes ≤ 139 }
+fn push_until(line: &mut Lines, until: Option<Moment>)
+    requires { length line.old.bytes ≤ 1100 }
     ensures bytes { line.new.bytes ≡ line.old.bytes ++ 32 ∷ until_text until }
     ensures room { length line.new.bytes ≤ length line.old.bytes + 21 }
 {
@@ -273,8 +227,8 @@ fn push_until(line: &mut Line, until: Option<Moment>)
 }
 
 /// Appends an IPv4 address, as four decimal octets with dots between.
-fn push_address(line: &mut Line, addr: Ip4)
-    requires { length line.old.bytes ≤ 139 }
+fn push_address(line: &mut Lines, addr: Ip4)
+    requires { length line.old.bytes ≤ 1100 }
     ensures bytes { line.new.bytes ≡ line.old.bytes ++ ip4_text addr }
     ensures room { length line.new.bytes ≤ length line.old.bytes + 15 }
 {
@@ -288,8 +242,8 @@ fn push_address(line: &mut Line, addr: Ip4)
 }
 
 /// Appends a number below 256 in decimal.
-fn push_octet(line: &mut Line, octet: u8)
-    requires { length line.old.bytes ≤ 157 }
+fn push_octet(line: &mut Lines, octet: u8)
+    requires { length line.old.bytes ≤ 1150 }
     ensures bytes { line.new.bytes ≡ line.old.bytes ++ decimal octet }
     ensures room { length line.new.bytes ≤ length line.old.bytes + 3 }
 {
@@ -298,8 +252,8 @@ fn push_octet(line: &mut Line, octet: u8)
 }
 
 /// Appends a subscriber's prefix: its address as eight groups, and its length in bits (RFC 4291, section 2.3).
-fn push_prefix(line: &mut Line, owner: Subscriber)
-    requires { length line.old.bytes ≤ 117 }
+fn push_prefix(line: &mut Lines, owner: Subscriber)
+    requires { length line.old.bytes ≤ 1100 }
     ensures bytes { line.new.bytes ≡ line.old.bytes ++ prefix_text owner }
     ensures room { length line.new.bytes ≤ length line.old.bytes + 43 }
 {
@@ -309,8 +263,8 @@ fn push_prefix(line: &mut Line, owner: Subscriber)
 }
 
 /// Appends the eight groups of an IPv6 address with colons between.
-fn push_groups(line: &mut Line, bits: u128)
-    requires { length line.old.bytes ≤ 121 }
+fn push_groups(line: &mut Lines, bits: u128)
+    requires { length line.old.bytes ≤ 1110 }
     ensures bytes { line.new.bytes ≡ line.old.bytes ++ groups 8 bits }
     ensures room { length line.new.bytes ≡ length line.old.bytes + 39 }
 {
@@ -322,8 +276,8 @@ fn push_groups(line: &mut Line, bits: u128)
 }
 
 /// Appends the last four hexadecimal digits of a number.
-fn push_group(line: &mut Line, bits: u128)
-    requires { length line.old.bytes ≤ 156 }
+fn push_group(line: &mut Lines, bits: u128)
+    requires { length line.old.bytes ≤ 1180 }
     ensures bytes { line.new.bytes ≡ line.old.bytes ++ group bits }
     ensures room { length line.new.bytes ≡ length line.old.bytes + 4 }
 {
@@ -334,8 +288,8 @@ fn push_group(line: &mut Line, bits: u128)
 }
 
 /// Appends the last hexadecimal digit of a number.
-fn push_digit(line: &mut Line, bits: u128)
-    requires { length line.old.bytes ≤ 159 }
+fn push_digit(line: &mut Lines, bits: u128)
+    requires { length line.old.bytes ≤ 1190 }
     ensures bytes { line.new.bytes ≡ line.old.bytes ++ hex_digit (bits % 16) ∷ [] }
     ensures room { length line.new.bytes ≡ length line.old.bytes + 1 }
 {
@@ -352,44 +306,12 @@ fn hex_digit(n: u8) -> u8
 }
 
 /// Appends a space and a number to a line.
-fn push_number(line: &mut Line, number: u64)
-    requires { length line.old.bytes ≤ 139 }
+fn push_number(line: &mut Lines, number: u64)
+    requires { length line.old.bytes ≤ 1150 }
     ensures bytes { line.new.bytes ≡ line.old.bytes ++ 32 ∷ decimal number }
     ensures room { length line.new.bytes ≤ length line.old.bytes + 21 }
 {
     let mut digits = Buffer::new();
     line.push(' ');
     line.push_str(digits.format(number));
-}
-
-/// The name of a cause.
-fn name_of(cause: DropCause) -> &'static str
-    ensures text { result.now ≡ name_of cause }
-    ensures short { length result.now ≤ 17 }
-{
-    match cause {
-        DropCause::Settling => "Settling",
-        DropCause::Snapped => "Snapped",
-        DropCause::BadPacket => "BadPacket",
-        DropCause::NotUs => "NotUs",
-        DropCause::NotTunnel => "NotTunnel",
-        DropCause::UnknownSubscriber => "UnknownSubscriber",
-        DropCause::PieceTooMany => "PieceTooMany",
-        DropCause::PieceTooLong => "PieceTooLong",
-        DropCause::PieceOverlap => "PieceOverlap",
-        DropCause::Options => "Options",
-        DropCause::NoRoute => "NoRoute",
-        DropCause::NoProtocol => "NoProtocol",
-        DropCause::TtlSpent => "TtlSpent",
-        DropCause::TooBig => "TooBig",
-        DropCause::QuotaMappings => "QuotaMappings",
-        DropCause::QuotaPeers => "QuotaPeers",
-        DropCause::QuotaBlocks => "QuotaBlocks",
-        DropCause::AddressFull => "AddressFull",
-        DropCause::PoolEmpty => "PoolEmpty",
-        DropCause::NoMapping => "NoMapping",
-        DropCause::Filtered => "Filtered",
-        DropCause::BadChange => "BadChange",
-        DropCause::Lost => "Lost",
-    }
 }

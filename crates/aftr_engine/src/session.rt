@@ -1,24 +1,24 @@
 //! One run: the records of an input through the gate, to the input's end or to what stops the run.
-ghost use Rattle.std.specs.Prelude.{◌≡◌, ◌≤◌, [], ◌++◌, List, ℕ, length, IfOk};
-ghost use Rattle.plant_io.specs.Causes.{Rose};
+ghost use Rattle.std.specs.Prelude.{◌≡◌, ◌≢◌, true, [], IfOk};
 ghost use Rattle.plant_io.specs.Sink.{GainsPart};
 ghost use Rattle.plant_io.specs.Stops.{StopsLeave};
 ghost use Rattle.plant_io.specs.Story.{content, sent, IsSettled};
-ghost use Rattle.aftr_engine.specs.aftr_engine.Fronts.{HasCome};
-ghost use Rattle.aftr_engine.specs.aftr_engine.Stops.{AccountsFor};
+ghost use Rattle.cfg_text.specs.Accepted.{is_accepted};
 ghost use Rattle.aftr_base.specs.declared.outcome.Status.{Status};
-ghost use Rattle.aftr_engine.specs.link_records.Frames.{frames_of};
-ghost use Rattle.aftr_engine.specs.aftr_engine.Causes.{EndsWith, IsAtRecordsEnd};
-ghost use Rattle.aftr_engine.specs.aftr_engine.EndToEnd.{output_of, log_of};
+ghost use Rattle.aftr_engine.specs.session.EndToEnd.{output_of};
+ghost use Rattle.plant_io.specs.Uses.{source_use, plant_use};
+ghost use Rattle.aftr_engine.specs.session.Fronts.{HasCome};
+ghost use Rattle.aftr_engine.specs.session.Stops.{AccountsFor};
 
 use crate::egress_gate::{Gate, PassFailed};
 use crate::lease_log::Journal;
 use crate::link_records::{FrameReader, Next};
 use crate::tally::Tally;
-use crate::xlate_core::Core;
 use aftr_base::{NoMemory, Status};
+use cfg_text::Config;
 use plant_io::{Plant, Source};
 use std::alloc::Global;
+use xlate_core::Core;
 
 /// The parts of a run: what reads records, what translates them, and what logs and sends.
 #[derive(Drop)]
@@ -30,15 +30,15 @@ pub struct Session {
 }
 
 impl Session {
-    ghost use Rattle.aftr_engine.specs.session.Begun.{HasBegun, HasTallied, tally_of};
-    ghost use Rattle.aftr_engine.specs.session.Begun.{StopsFor};
+    ghost use Rattle.aftr_engine.specs.session.Begun.{HasBegun, StopsFor, IsAtRecordsEnd, TalliesAs, config_of, tally_of};
 
-    /// A run over an empty log, with the default configuration.
-    pub fn new(alloc: Global) -> Result<Self, NoMemory>
-        ensures { IfOk result HasBegun }
+    /// A run over an empty log, with this configuration.
+    pub fn new(alloc: Global, config: Config) -> Result<Self, NoMemory>
+        requires accepted { is_accepted config ≡ true }
+        ensures { IfOk result (HasBegun config) }
     {
         let reader = FrameReader::new(alloc)?;
-        let core = Core::start(alloc)?;
+        let core = Core::start(alloc, config)?;
         Ok(Session {
             reader,
             core,
@@ -62,24 +62,21 @@ impl Session {
         input: &mut I,
         plant: &mut P,
     ) -> Status
-        requires begun { HasBegun self.old }
+        requires begun { HasBegun (config_of self.old) self.old }
         requires empty { P.tells → content (P.story plant.old) ≡ [] }
 
-        ensures ends { I.tells → EndsWith (frames_of (I.rest input.old)).stop result }
-        ensures sent { I.tells → P.tells → IsAtRecordsEnd result →
-            sent (P.story plant.new) ≡ sent (P.story plant.old) ++ output_of (I.rest input.old) }
-        ensures part { I.tells → P.tells → GainsPart (output_of (I.rest input.old)) (sent (P.story plant.old)) (sent (P.story plant.new)) }
-        ensures log { I.tells → P.tells → IsAtRecordsEnd result → content (P.story plant.new) ≡ log_of (I.rest input.old) }
-        ensures stops { I.tells → P.tells → StopsLeave (P.story plant.old) (P.story plant.new) (AccountsFor (I.rest input.old) (sent (P.story plant.old))) }
-        ensures durable { P.tells → IsAtRecordsEnd result → IsSettled (P.story plant.new) }
-        ensures counts { I.tells → IsAtRecordsEnd result → HasTallied (I.rest input.old) self.new }
-        ensures came { I.tells → P.tells → HasCome (I.rest input.old) (I.rest input.new) (P.story plant.old) (P.story plant.new) (tally_of self.new).drops.0 result }
-
-        ensures cause { StopsFor (I.faults input.old) (I.faults input.new) (P.disk_faults plant.old) (P.disk_faults plant.new)
-            (P.out_faults plant.old) (P.out_faults plant.new) result }
-        ensures input_later { I.faults input.old ≤ I.faults input.new }
-        ensures disk_later { P.disk_faults plant.old ≤ P.disk_faults plant.new }
-        ensures outlet_later { P.out_faults plant.old ≤ P.out_faults plant.new }
+        ensures ends { StopsFor (source_use ⟦<I as Source>⟧ input.old input.new)
+            (plant_use ⟦<P as Plant>⟧ plant.old plant.new) result }
+        ensures came { HasCome (config_of self.old) (source_use ⟦<I as Source>⟧ input.old input.new)
+            (plant_use ⟦<P as Plant>⟧ plant.old plant.new) (tally_of self.new).drops.0 result }
+        ensures counts { I.tells → IsAtRecordsEnd result →
+            TalliesAs (config_of self.old) (I.rest input.old) (tally_of self.new) }
+        ensures part { I.tells → P.tells →
+            GainsPart (output_of (config_of self.old) (I.rest input.old))
+            (sent (P.story plant.old)) (sent (P.story plant.new)) }
+        ensures stops { I.tells → P.tells → StopsLeave (P.story plant.old) (P.story plant.new)
+            (AccountsFor (config_of self.old) (I.rest input.old) (sent (P.story plant.old))) }
+        ensures settled { P.tells → result ≢ Status.LogFault → IsSettled (P.story plant.new) }
     {
         loop {
             let event = match self.reader.next(alloc, input) {

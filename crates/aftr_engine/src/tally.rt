@@ -1,7 +1,7 @@
 //! What a run counts.
 ghost use Rattle.std.specs.Prelude.{◌≡◌, ◌<◌, ◌+◌, ◌^◌, ◌++◌, option_to_list, [], ◌∷◌, List, EachIndex, slice_index};
 ghost use Rattle.aftr_base.specs.declared.event.DropCause.{DropCause};
-ghost use Rattle.aftr_engine.specs.aftr_engine.Report.{drop_counts};
+ghost use Rattle.aftr_base.specs.Drops.{drop_counts};
 
 use aftr_base::{DropCause, DropCounts};
 
@@ -26,7 +26,7 @@ impl Tally {
         Tally {
             records: 0,
             sent: 0,
-            drops: DropCounts([0; 23]),
+            drops: DropCounts::none(),
         }
     }
 
@@ -43,19 +43,7 @@ impl Tally {
         self.records += 1;
         self.sent += packets as u64;
         if let Some(cause) = cause {
-            self.count_drop(cause);
+            self.drops.count(cause);
         }
-    }
-
-    // Counts one more record that was dropped for this cause. The counts stay below 2^63, so none wraps.
-    fn count_drop(&mut self, cause: DropCause)
-        requires { EachIndex self.old.drops.0 (λ k. slice_index self.old.drops.0 k < 2 ^ 63) }
-        ensures records { self.new.records ≡ self.old.records }
-        ensures sent { self.new.sent ≡ self.old.sent }
-        ensures drops { (drops : List DropCause) → self.old.drops.0 ≡ drop_counts drops
-            → self.new.drops.0 ≡ drop_counts (drops ++ cause ∷ []) }
-    {
-        let place = cause as usize;
-        self.drops.0[place] += 1;
     }
 }

@@ -2,11 +2,10 @@
 ghost use Rattle.std.specs.Prelude.{◌≡◌, ◌≤◌, ◌∷◌, [], Some, None, IfSome, IfNone, if◌then◌else◌};
 ghost use Rattle.std.specs.List.{list_any};
 ghost use Rattle.aftr_base.specs.Bytes.{split_on};
-ghost use Rattle.aftr_engine.specs.aftr_engine.Words.{is_odd, number_upto, value_of, is_octet, begins_well, address_in, address_of, traced, with_one, with_four, command_in, command_for, paths_with, paths_for};
-ghost use Rattle.aftr_engine.specs.lease_log.Told.{log_moment_limit};
+ghost use Rattle.aftr_engine.specs.words.Words.{is_odd, number_upto, value_of, is_octet, begins_well, address_in, address_of, traced, with_one, with_four, command_in, command_for, paths_with, paths_for};
+ghost use Rattle.aftr_base.specs.Limits.{log_moment_limit};
 
-use crate::lease_log::LOG_MOMENT_LIMIT;
-use aftr_base::{Ip4, Moment, Word};
+use aftr_base::{Ip4, LOG_MOMENT_LIMIT, Moment, Word};
 
 /// A command with its values; its paths are the other words.
 #[derive(Clone, Copy, Debug, PartialEq, Eq)]
@@ -118,7 +117,8 @@ fn with_four(name: &Word, second: &Word, third: &Word, fourth: &Word) -> Option<
 
 /// The trace that asks for this address, port and moment in milliseconds.
 fn trace_of(addr: &[u8], port: &[u8], at: &[u8]) -> Option<Command>
-    ensures { result ≡ traced (address_of addr.now) (number_upto 65535 port.now) (number_upto log_moment_limit at.now) }
+    ensures { result ≡ traced (address_of addr.now) (number_upto 65535 port.now)
+        (number_upto log_moment_limit at.now) }
 {
     let addr = address_of(addr)?;
     let port = port_of(port)?;
@@ -198,7 +198,8 @@ fn address_with(first: &[u8], second: &[u8], third: &[u8], fourth: &[u8]) -> Opt
 
 /// What stands before the first dot, and what stands behind it.
 fn cut_at_dot(text: &[u8]) -> Option<(&[u8], &[u8])>
-    ensures found { IfSome result (λ parts. split_on 46 text.now ≡ parts.0.now ∷ split_on 46 parts.1.now) }
+    ensures found { IfSome result
+        (λ parts. split_on 46 text.now ≡ parts.0.now ∷ split_on 46 parts.1.now) }
     ensures none { IfNone result (split_on 46 text.now ≡ text.now ∷ []) }
 {
     for (place, byte) in text.iter().enumerate() {

@@ -1,5 +1,6 @@
 -- What the images of a story are after a step.
-use Rattle.std.proofs.Common.{◌≡◌, ◌≢◌, ◌⊎◌, inl, inr, ℕ, ◌+◌, ◌<◌, ◌≤◌, List, [], ◌∷◌, ◌++◌, length, get_or, take, drop, refl, sym, ◌∙◌, ap, subst, arith, append_assoc, length-drop, get_or-set_other, get_or-set_same}
+use Rattle.std.proofs.Common.{◌≡◌, ◌≢◌, ◌⊎◌, inl, inr, ℕ, ◌+◌, ◌<◌, ◌≤◌, List, [], ◌∷◌, ◌++◌, length, get_or, take, drop, refl, sym, ◌∙◌}
+use Rattle.std.proofs.Common.{ap, subst, arith, append_assoc, length-drop, get_or-set_other, get_or-set_same}
 use Rattle.std.proofs.Math.ListN.{set, length-set}
 use Rattle.std.proofs.lemmas.Bool.{cases_lt}
 use Rattle.std.proofs.lemmas.List.{append-nil, length-take, ext_get_or, get_or-take, get_or-drop, places}
@@ -11,10 +12,12 @@ length-put at bytes file le = grind (arith, places)
 pub put_no_shorter : (at : ℕ) (bytes file : List ℕ) → length file ≤ length (put at bytes file)
 put_no_shorter at bytes file = grind (arith, places)
 
-pub put_no_longer : (at : ℕ) (bytes file : List ℕ) (most : ℕ) → at ≤ length file → length file ≤ most → at + length bytes ≤ most → length (put at bytes file) ≤ most
+pub put_no_longer : (at : ℕ) (bytes file : List ℕ) (most : ℕ) → at ≤ length file → length file ≤ most → at + length bytes ≤ most
+    → length (put at bytes file) ≤ most
 put_no_longer at bytes file most inside h k = grind (arith, places)
 
-put_elsewhere : (at : ℕ) (bytes file : List ℕ) (place : ℕ) → place < length file → (place < at) ⊎ (at + length bytes ≤ place) → get_or (put at bytes file) place 0 ≡ get_or file place 0
+put_elsewhere : (at : ℕ) (bytes file : List ℕ) (place : ℕ) → place < length file → (place < at) ⊎ (at + length bytes ≤ place)
+    → get_or (put at bytes file) place 0 ≡ get_or file place 0
 put_elsewhere at bytes file place within (inl before) = grind (arith, places)
 put_elsewhere at bytes file place within (inr behind) = grind (arith, places)
 
@@ -61,7 +64,8 @@ pub durable_is_image : (story : Story) → IsImage story (durable story)
 durable_is_image story = record { no_shorter = omega arith; no_longer = durable_no_longer story; kept = λ place lt free. refl }
 
 -- what a stop may leave before a write it may leave after it
-pub image_before_write : (past : Story) (at : ℕ) (bytes : List ℕ) (lost : ℕ) (image : List ℕ) → IsImage past image → IsImage (wrote at bytes lost ∷ past) image
+pub image_before_write : (past : Story) (at : ℕ) (bytes : List ℕ) (lost : ℕ) (image : List ℕ) → IsImage past image
+    → IsImage (wrote at bytes lost ∷ past) image
 image_before_write past at bytes lost image h = record {
   no_shorter = h.no_shorter;
   no_longer = omega (arith, h.no_longer, put_no_shorter at bytes (content past));

@@ -1,5 +1,6 @@
 -- What one step more makes of the record of a plant.
-use Rattle.std.proofs.Common.{◌≡◌, ℕ, ◌+◌, List, [], ◌∷◌, ◌++◌, length, take, drop, Vec, refl, sym, ◌∙◌, ap, arith, length-append, length-drop}
+use Rattle.std.proofs.Common.{◌≡◌, ℕ, ◌+◌, List, [], ◌∷◌, ◌++◌, length, take, drop, Vec, refl, sym, ◌∙◌, ap, arith, length-append}
+use Rattle.std.proofs.Common.{length-drop}
 use Rattle.std.specs.declared.alloc.Global.{Global}
 use Rattle.std.proofs.lemmas.List.{take_all, take-append-le, drop-append-le}
 use Rattle.plant_io.specs.Story.{wrote, synced, Story, put, content, sent, emit_all}
@@ -8,19 +9,22 @@ use Rattle.plant_mem.specs.declared.tape.Kept.{Kept}
 use Rattle.plant_mem.specs.declared.tape.Kept.TheVariants.{Wrote, Synced, Emitted}
 use Rattle.plant_mem.specs.Tape.{begun, story_of, emitted_count, TapeValue, IsTold}
 
-story_of-wrote : (kept : List Kept) (at : ℕ) (stored : Vec ℕ Global) (lost : ℕ) (bytes : List ℕ) (story : Story) → story_of (kept ++ Wrote at stored lost ∷ []) bytes story ≡ wrote at stored.items lost ∷ story_of kept bytes story
+story_of-wrote : (kept : List Kept) (at : ℕ) (stored : Vec ℕ Global) (lost : ℕ) (bytes : List ℕ) (story : Story)
+    → story_of (kept ++ Wrote at stored lost ∷ []) bytes story ≡ wrote at stored.items lost ∷ story_of kept bytes story
 story_of-wrote [] at stored lost bytes story = refl
 story_of-wrote (Wrote a s l ∷ kept) at stored lost bytes story = story_of-wrote kept at stored lost bytes (wrote a s.items l ∷ story)
 story_of-wrote (Synced ∷ kept) at stored lost bytes story = story_of-wrote kept at stored lost bytes (synced ∷ story)
 story_of-wrote (Emitted n ∷ kept) at stored lost bytes story = story_of-wrote kept at stored lost (drop n bytes) (emit_all (take n bytes) story)
 
-story_of-synced : (kept : List Kept) (bytes : List ℕ) (story : Story) → story_of (kept ++ Synced ∷ []) bytes story ≡ synced ∷ story_of kept bytes story
+story_of-synced : (kept : List Kept) (bytes : List ℕ) (story : Story)
+    → story_of (kept ++ Synced ∷ []) bytes story ≡ synced ∷ story_of kept bytes story
 story_of-synced [] bytes story = refl
 story_of-synced (Wrote a s l ∷ kept) bytes story = story_of-synced kept bytes (wrote a s.items l ∷ story)
 story_of-synced (Synced ∷ kept) bytes story = story_of-synced kept bytes (synced ∷ story)
 story_of-synced (Emitted n ∷ kept) bytes story = story_of-synced kept (drop n bytes) (emit_all (take n bytes) story)
 
-story_of-emitted : (kept : List Kept) (bytes piece : List ℕ) (story : Story) → emitted_count kept ≡ length bytes → story_of (kept ++ Emitted (length piece) ∷ []) (bytes ++ piece) story ≡ emit_all piece (story_of kept bytes story)
+story_of-emitted : (kept : List Kept) (bytes piece : List ℕ) (story : Story) → emitted_count kept ≡ length bytes
+    → story_of (kept ++ Emitted (length piece) ∷ []) (bytes ++ piece) story ≡ emit_all piece (story_of kept bytes story)
 story_of-emitted [] [] piece story count = ap (λ (l : List ℕ). emit_all l story) (take_all (length piece) piece (omega arith))
 story_of-emitted [] (byte ∷ bytes) piece story count = absurd (omega (arith, count))
 story_of-emitted (Wrote a s l ∷ kept) bytes piece story count = story_of-emitted kept bytes piece (wrote a s.items l ∷ story) count
@@ -73,7 +77,8 @@ sync_told start file bytes kept kept' told kept_is =
       is = is;
     }
 
-pub emit_told : (start file bytes bytes' piece : List ℕ) (kept kept' : List Kept) → IsTold start file bytes kept → bytes' ≡ bytes ++ piece → kept' ≡ kept ++ Emitted (length piece) ∷ []
+pub emit_told : (start file bytes bytes' piece : List ℕ) (kept kept' : List Kept) → IsTold start file bytes kept → bytes' ≡ bytes ++ piece
+    → kept' ≡ kept ++ Emitted (length piece) ∷ []
     → Tells start file bytes' kept' (emit_all piece (story_of kept bytes (begun start)))
 emit_told start file bytes bytes' piece kept kept' told bytes_is kept_is =
     let is : story_of kept' bytes' (begun start) ≡ emit_all piece (story_of kept bytes (begun start)) =
@@ -89,5 +94,6 @@ emit_told start file bytes bytes' piece kept kept' told bytes_is kept_is =
       is = is;
     }
 
-pub same_value : (a b : TapeValue) → a.story ≡ b.story → a.calls ≡ b.calls → a.disk_faults ≡ b.disk_faults → a.out_faults ≡ b.out_faults → a ≡ b
+pub same_value : (a b : TapeValue) → a.story ≡ b.story → a.calls ≡ b.calls → a.disk_faults ≡ b.disk_faults → a.out_faults ≡ b.out_faults
+    → a ≡ b
 same_value a b story calls disk out = λ i. record { story = story i; calls = calls i; disk_faults = disk i; out_faults = out i }

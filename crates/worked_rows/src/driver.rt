@@ -1,6 +1,6 @@
 //! Makes the calls of cases, and compares what they leave with what they should.
 ghost use Rattle.std.specs.Prelude.{◌≡◌};
-ghost use Rattle.aftr_engine.specs.aftr_engine.Words.{input_count, paths_for};
+ghost use Rattle.aftr_engine.specs.words.Words.{input_count, paths_for};
 
 use crate::case::Case;
 use crate::octets::{list_of, octets, words_of};

@@ -1,8 +1,8 @@
 //! Objects that fail, and objects that are refused.
 
-use crate::case::{Case, ONE_PACKET, RUN};
+use crate::case::{Case, ONE_PACKET, QUERY, RUN};
 use crate::driver::check_all;
-use crate::packets::{FIRST, FIRST_LOGGED, FIRST_SENT, HEAD, PACKET};
+use crate::packets::{FIRST, FIRST_LOGGED, FIRST_SENT, HEAD, OTHER_LOGGED, PACKET};
 use aftr_base::DropCause;
 use plant_mem::PlantCall;
 
@@ -92,42 +92,39 @@ static READS: [Case<'static>; 3] = [
     },
 ];
 
-// A run whose report fails, over a packet that is sent and one that is dropped, so that the report has four lines.
-const REPORT_FAILS: Case<'static> = Case {
-    input: &[HEAD, PACKET, "00000009 02 00000000000f4240"],
-    status: "OutFault",
-    report: "",
-    sent: &[FIRST_SENT],
-    log_after: &[FIRST_LOGGED],
-    drops: &[(DropCause::NoProtocol, 1)],
-    ..RUN
-};
-
-static REPORTS: [Case<'static>; 4] = [
+// The whole summary is one write of the report; a list of leases is one for each line.
+static REPORTS: [Case<'static>; 3] = [
     Case {
-        name: "the report's first line fails",
+        name: "the report of a run fails",
+        input: &[HEAD, PACKET, "00000009 02 00000000000f4240"],
         report_fails_at: &[0],
-        ..REPORT_FAILS
+        status: "OutFault",
+        report: "",
+        sent: &[FIRST_SENT],
+        log_after: &[FIRST_LOGGED],
+        drops: &[(DropCause::BadPacket, 1)],
+        ..RUN
     },
     Case {
-        name: "the report's second line fails",
+        name: "the report of the first lease fails",
+        report_fails_at: &[0],
+        ..LIST_FAILS
+    },
+    Case {
+        name: "the report of the second lease fails",
         report_fails_at: &[1],
-        report: "records 2\n",
-        ..REPORT_FAILS
-    },
-    Case {
-        name: "the report's third line fails",
-        report_fails_at: &[2],
-        report: "records 2\nsent 1\n",
-        ..REPORT_FAILS
-    },
-    Case {
-        name: "the report's fourth line fails",
-        report_fails_at: &[3],
-        report: "records 2\nsent 1\nmarks 0\n",
-        ..REPORT_FAILS
+        report: "lease 192.0.2.8 1024 1535 1000000 open 2001:0db8:0100:0000:0000:0000:0000:0000/56\n",
+        ..LIST_FAILS
     },
 ];
+
+// A list of two leases whose report fails.
+const LIST_FAILS: Case<'static> = Case {
+    log: &[FIRST_LOGGED, OTHER_LOGGED],
+    status: "OutFault",
+    log_after: &[FIRST_LOGGED, OTHER_LOGGED],
+    ..QUERY
+};
 
 // A run that refuses its configuration, and whose report of that fails.
 const FAULT_REPORT_FAILS: Case<'static> = Case {

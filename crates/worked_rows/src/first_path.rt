@@ -3,8 +3,8 @@
 use crate::case::{Case, ONE_PACKET, RUN};
 use crate::driver::{check_all, check_all_without_faults};
 use crate::packets::{
-    ELSEWHERE, FIRST_LOGGED, FIRST_SENT, HEAD, INNER, NEXT_HEAD, OTHER, OTHER_LOGGED, OTHER_SENT,
-    PACKET, TUNNEL, UNSUMMED,
+    DATAGRAM, ELSEWHERE, FIRST_LOGGED, FIRST_SENT, HEAD, INNER, NEXT_HEAD, OTHER, OTHER_LOGGED,
+    OTHER_SENT, PACKET, TUNNEL, UNSUMMED,
 };
 
 static PACKETS: [Case<'static>; 4] = [
@@ -54,6 +54,41 @@ static CHECKSUMS: [Case<'static>; 2] = [
         ..ONE_PACKET
     },
 ];
+
+// The first packet behind a Destination Options header with a Tunnel Encapsulation Limit (RFC 2473 4.1.1), and behind a
+// Hop-by-Hop Options header of 16 bytes and that one.
+static EXTENSIONS: [Case<'static>; 2] = [
+    Case {
+        name: "a Tunnel Encapsulation Limit",
+        input: &[
+            "00000059 01 00000000000f4240",
+            "60000000 0028 3c 40
+            20010db8010000000000000000000002 20010db8000000000000000000000001",
+            "04 00 04 01 04 01 01 00",
+            INNER,
+            DATAGRAM,
+        ],
+        ..ONE_PACKET
+    },
+    Case {
+        name: "two extension headers",
+        input: &[
+            "00000069 01 00000000000f4240",
+            "60000000 0038 00 40
+            20010db8010000000000000000000002 20010db8000000000000000000000001",
+            "3c 01 01 0c 00000000 0000000000000000",
+            "04 00 04 01 04 01 01 00",
+            INNER,
+            DATAGRAM,
+        ],
+        ..ONE_PACKET
+    },
+];
+
+#[test]
+fn extension_headers_are_skipped(rt: HostRuntime) {
+    check_all(&rt, &EXTENSIONS);
+}
 
 #[test]
 fn packets_go_out(rt: HostRuntime) {

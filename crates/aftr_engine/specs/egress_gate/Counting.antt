@@ -2,8 +2,8 @@
 use Rattle.std.specs.Prelude.{◌≡◌, ◌<◌, ◌+◌, ◌^◌, List, [], ◌++◌, length, option_to_list, EachIndex, slice_index}
 use Rattle.aftr_base.specs.declared.event.DropCause.{DropCause}
 use Rattle.aftr_engine.specs.declared.tally.Tally.{Tally}
-use Rattle.aftr_engine.specs.xlate_core.State.{Step}
-use Rattle.aftr_engine.specs.aftr_engine.Report.{drop_counts}
+use Rattle.xlate_core.specs.State.{Step}
+use Rattle.aftr_base.specs.Drops.{drop_counts}
 
 -- one more record, its packets, and its drop if it was one
 pub record HasCounted (t : Step) (before after : Tally) : Type 0 where

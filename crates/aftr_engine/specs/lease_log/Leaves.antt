@@ -12,4 +12,5 @@ HasLogged past log records packets image bytes = (count : ℕ) × (bytes ≡ pas
 
 -- never a byte of a packet before the records
 abbrev pub LogsFirst : Story → List ℕ → List ℕ → List ℕ → List ℕ → Type 0
-LogsFirst before records packets image bytes = KeepsLog before image bytes ⊎ HasLogged (sent before) (content before) records packets image bytes
+LogsFirst before records packets image bytes = KeepsLog before image bytes ⊎ HasLogged (sent before)
+    (content before) records packets image bytes

@@ -1,15 +1,13 @@
 -- What a log of block records tells, or where it is damaged.
-use Rattle.std.specs.Prelude.{ℕ, zero, suc, ◌+◌, Bool, not, ◌&&◌, ◌==◌, nat_le, List, [], ◌∷◌, ◌++◌, length, drop, map, Option, Some, None, Result, Ok, Err, if◌then◌else◌}
+use Rattle.std.specs.Prelude.{ℕ, zero, suc, ◌+◌, Bool, not, ◌&&◌, ◌==◌, nat_le, List, [], ◌∷◌, ◌++◌, length, drop, map, Option, Some, None}
+use Rattle.std.specs.Prelude.{Result, Ok, Err, if◌then◌else◌}
 use Rattle.std.specs.List.{list_all, list_any}
 use Rattle.aftr_base.specs.Value.{ip4, ip4_eq, subscriber_eq, moment}
 use Rattle.aftr_base.specs.Bytes.{u8_at, u16_at, u32_at, u64_at, u128_at}
 use Rattle.aftr_base.specs.Plan.{prefix6, is_prefix6}
 use Rattle.aftr_base.specs.Row.{is_open, overlaps, ended}
+use Rattle.aftr_base.specs.Limits.{log_moment_limit}
 use Rattle.aftr_base.specs.declared.row.LeaseRow.{LeaseRow}
-
--- the greatest moment of the log, in milliseconds: the last second of a 32-bit clock
-abbrev pub log_moment_limit : ℕ
-log_moment_limit = 4294967295999
 
 -- the block of a record, as a lease that is open from the record's moment on
 abbrev pub block_in : List ℕ → LeaseRow
@@ -50,7 +48,8 @@ after_event event leases b =
 -- the leases after the record at the front
 abbrev pub after_record : List LeaseRow → List ℕ → Option (List LeaseRow)
 after_record leases bytes =
-    if nat_le 34 (length bytes) && nat_le (u64_at 0 bytes) log_moment_limit then after_event (u8_at 8 bytes) leases (block_in bytes) else None
+    if nat_le 34 (length bytes) && nat_le (u64_at 0 bytes) log_moment_limit then after_event (u8_at 8 bytes) leases
+    (block_in bytes) else None
 
 -- ---- the file
 

@@ -3,7 +3,8 @@ use Rattle.std.specs.Prelude.{◌≡◌, ◌≤◌, ℕ, ◌+◌, List, None}
 use Rattle.plant_io.specs.Causes.{Rose}
 use Rattle.aftr_engine.specs.declared.link_records.Next.{Next}
 use Rattle.aftr_engine.specs.declared.link_records.Next.TheVariants.{Got, End, Bad, Failed, NoMemory}
-use Rattle.aftr_engine.specs.link_records.Frames.{event_at, input_limit, moment_limit}
+use Rattle.aftr_base.specs.Limits.{moment_limit}
+use Rattle.aftr_engine.specs.link_records.Frames.{event_at, input_limit}
 
 -- a record's moment is in its range
 abbrev pub IsTimely : Next → Type 0

@@ -1,16 +1,14 @@
 -- Frames: a length, a kind, a moment and a body.
-use Rattle.std.specs.Prelude.{ℕ, zero, suc, ◌+◌, Bool, not, ◌&&◌, ◌||◌, ◌==◌, nat_le, List, [], ◌∷◌, ◌++◌, length, drop, slice_range, Option, Some, None, option_map, if◌then◌else◌}
+use Rattle.std.specs.Prelude.{ℕ, zero, suc, ◌+◌, Bool, not, ◌&&◌, ◌||◌, ◌==◌, nat_le, List, [], ◌∷◌, ◌++◌, length, drop, slice_range}
+use Rattle.std.specs.Prelude.{Option, Some, None, option_map, if◌then◌else◌}
 use Rattle.aftr_base.specs.Value.{moment, is_within}
 use Rattle.aftr_base.specs.Bytes.{u8_at, u32_at, u64_at, be32, be64}
+use Rattle.aftr_base.specs.Limits.{moment_limit}
 use Rattle.aftr_base.specs.declared.event.Event.{Event}
 use Rattle.aftr_base.specs.declared.event.EventKind.{EventKind}
 use Rattle.aftr_base.specs.declared.event.EventKind.TheVariants.{Softwire, Public, Tick, Change}
 use Rattle.aftr_base.specs.declared.value.Side.{Side}
 use Rattle.aftr_base.specs.declared.value.Side.TheVariants.{Softwire as SoftwireSide, Public as PublicSide}
-
--- the greatest moment that a record may bear, in milliseconds: the last second of a 32-bit clock, less an hour
-abbrev pub moment_limit : ℕ
-moment_limit = 4294963695999
 
 -- the offset, in bytes, by which each record of an input ends
 abbrev pub input_limit : ℕ

@@ -6,7 +6,8 @@ use Rattle.aftr_base.specs.declared.event.Event.{Event}
 use Rattle.aftr_engine.specs.declared.link_records.front.Head.{Head}
 use Rattle.aftr_engine.specs.declared.link_records.front.Front.{Front}
 use Rattle.aftr_engine.specs.declared.link_records.front.Front.TheVariants.{Whole, Short, Bad}
-use Rattle.aftr_engine.specs.link_records.Frames.{event_at, frame_len, input_limit, kind_of, may_have_body, moment_limit}
+use Rattle.aftr_base.specs.Limits.{moment_limit}
+use Rattle.aftr_engine.specs.link_records.Frames.{event_at, frame_len, input_limit, kind_of, may_have_body}
 
 -- the bytes of the longest frame
 abbrev pub longest_frame : ℕ
@@ -20,7 +21,8 @@ is_sound_head bytes = is_within 1 4 (u8_at 4 bytes) && may_have_body (u8_at 4 by
 abbrev pub HeadOf : List ℕ → Option Head → Type 0
 HeadOf bytes None = is_sound_head bytes ≡ false
 HeadOf bytes (Some head) =
-    (is_sound_head bytes ≡ true) × (kind_of (u8_at 4 bytes) ≡ Some head.kind) × (head.at ≡ moment (u64_at 5 bytes)) × (head.len ≡ frame_len bytes)
+    (is_sound_head bytes ≡ true) × (kind_of (u8_at 4 bytes) ≡ Some head.kind) × (head.at ≡ moment (u64_at 5 bytes)) ×
+    (head.len ≡ frame_len bytes)
 
 -- the event of a record with this head
 abbrev pub event_of : List ℕ → Head → Event

@@ -9,13 +9,12 @@ ghost use Rattle.aftr_engine.specs.lease_log.Answers.{HasFault, Takes, TakesUpTo
 ghost use Rattle.aftr_engine.specs.lease_log.Told.{after_record, block_in, is_lease_of, may_close, may_open, with_closed};
 
 use crate::nat_events::{CLOSES, OPENS, RECORD_LEN};
-use crate::octets::{u16_in, u32_in, u64_in, u128_in};
-use aftr_base::{Ip4, Ip6, LeaseRow, List, Moment, NoMemory, Prefix6, Subscriber};
+use aftr_base::{
+    Ip4, Ip6, LOG_MOMENT_LIMIT, LeaseRow, List, Moment, NoMemory, Prefix6, Subscriber, u16_in,
+    u32_in, u64_in, u128_in,
+};
 use plant_io::Plant;
 use std::alloc::Global;
-
-/// The greatest moment of a record, in milliseconds: the last second of a 32-bit clock.
-pub const LOG_MOMENT_LIMIT: u64 = 4_294_967_295_999;
 
 /// How many bytes a read of the log takes at most: 2,048 records.
 const PIECE: usize = 69_632;
@@ -80,7 +79,8 @@ fn take_records<P: Plant>(
     requires records { end % RECORD_LEN ≡ 0 }
     requires buffer { length buffer.old ≡ PIECE }
     requires inside { P.tells → end ≤ length (content (P.story plant.old)) }
-    ensures told { P.tells → TakesUpTo (content (P.story plant.old)) 0 end leases.old.items leases.new.items result }
+    ensures told { P.tells → TakesUpTo
+        (content (P.story plant.old)) 0 end leases.old.items leases.new.items result }
     ensures same { P.tells → P.story plant.new ≡ P.story plant.old }
     ensures failed { IfErr result (HasFault (P.disk_faults plant.old) (P.disk_faults plant.new)) }
     ensures later { P.disk_faults plant.old ≤ P.disk_faults plant.new }
@@ -105,7 +105,8 @@ fn take_piece<P: Plant>(
     requires records { length buffer.old % RECORD_LEN ≡ 0 }
     requires fits { at + length buffer.old < 2 ^ 64 }
     requires inside { P.tells → at + length buffer.old ≤ length (content (P.story plant.old)) }
-    ensures told { P.tells → TakesUpTo (content (P.story plant.old)) at (at + length buffer.old) leases.old.items leases.new.items result }
+    ensures told { P.tells → TakesUpTo (content (P.story plant.old)) at
+        (at + length buffer.old) leases.old.items leases.new.items result }
     ensures same { P.tells → P.story plant.new ≡ P.story plant.old }
     ensures failed { IfErr result (HasFault (P.disk_faults plant.old) (P.disk_faults plant.new)) }
     ensures later { P.disk_faults plant.old ≤ P.disk_faults plant.new }
@@ -144,7 +145,8 @@ fn apply_all(leases: &mut Vec<LeaseRow>, at: u64, piece: &[u8]) -> Result<Option
 fn apply(leases: &mut Vec<LeaseRow>, bytes: &[u8]) -> Result<bool, NoMemory>
     requires { RECORD_LEN ≤ length bytes.now }
     ensures { IfOk result (λ sound. MatchBool sound
-        (after_record leases.old.items bytes.now ≡ Some leases.new.items) (after_record leases.old.items bytes.now ≡ None)) }
+        (after_record leases.old.items bytes.now ≡ Some leases.new.items)
+        (after_record leases.old.items bytes.now ≡ None)) }
 {
     let block = block_in(bytes);
     if LOG_MOMENT_LIMIT < block.since.0 {
@@ -190,7 +192,8 @@ fn may_open(leases: &[LeaseRow], block: LeaseRow) -> bool
 
 /// Whether no open lease has ports of a block.
 fn is_free(leases: &[LeaseRow], block: LeaseRow) -> bool
-    ensures { result ≡ list_all (λ l. not (is_open l && overlaps l block.addr block.first block.last)) leases.now }
+    ensures { result ≡ list_all
+        (λ l. not (is_open l && overlaps l block.addr block.first block.last)) leases.now }
 {
     leases.iter().all(|l| !is_in_the_way(l, block))
 }

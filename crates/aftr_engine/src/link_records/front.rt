@@ -4,11 +4,7 @@ ghost use Rattle.aftr_base.specs.Bytes.{u32_at, u64_at};
 ghost use Rattle.aftr_engine.specs.link_records.Frames.{input_limit, kind_of, frame_len};
 ghost use Rattle.aftr_engine.specs.link_records.Front.{Scans, HeadOf};
 
-use crate::octets::{u32_in, u64_in};
-use aftr_base::{EventKind, Moment};
-
-/// The greatest moment of a record, in milliseconds: the last second of a 32-bit clock, less an hour.
-const INPUT_MOMENT_LIMIT: u64 = 4_294_963_695_999;
+use aftr_base::{EventKind, MOMENT_LIMIT, Moment, u32_in, u64_in};
 
 /// The offset, in bytes, by which each record of an input ends.
 const INPUT_LIMIT: u64 = 1 << 50;
@@ -70,7 +66,7 @@ fn head_of(bytes: &[u8], len: usize) -> Option<Head>
 {
     let at = u64_in(bytes, 5);
     let kind = kind_of(bytes[4])?;
-    if kind == EventKind::Tick && len != HEAD || INPUT_MOMENT_LIMIT < at {
+    if kind == EventKind::Tick && len != HEAD || MOMENT_LIMIT < at {
         return None;
     }
     Some(Head {

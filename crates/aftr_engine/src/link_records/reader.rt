@@ -96,7 +96,8 @@ impl FrameReader {
 /// Reads until the window tells what stands at its front, which is at this offset of the input.
 fn find<I: Source>(window: &mut Window, at: u64, input: &mut I) -> Found
     requires { at ≤ input_limit }
-    ensures whole { I.tells → FindsWhole at (held window.old ++ I.rest input.old) (held window.new ++ I.rest input.new) result }
+    ensures whole { I.tells → FindsWhole at (held window.old ++ I.rest input.old)
+        (held window.new ++ I.rest input.new) result }
     ensures found { Finds at (held window.new) result }
     ensures failed { FailsFor (I.faults input.old) (I.faults input.new) result }
     ensures later { I.faults input.old ≤ I.faults input.new }

@@ -66,8 +66,10 @@ impl Window {
     /// Reads once, into all the room that there is behind the bytes at hand.
     pub(crate) fn fill<I: Source>(&mut self, input: &mut I) -> Fill
         requires { length (held self.old) < longest_frame }
-        ensures kept { I.tells → FillsWhole (held self.old ++ I.rest input.old) (held self.new ++ I.rest input.new) (I.rest input.old) result }
-        ensures progress { Fills (held self.old) (held self.new) (I.faults input.old) (I.faults input.new) result }
+        ensures kept { I.tells → FillsWhole (held self.old ++ I.rest input.old)
+            (held self.new ++ I.rest input.new) (I.rest input.old) result }
+        ensures progress { Fills (held self.old) (held self.new) (I.faults input.old)
+            (I.faults input.new) result }
         ensures later { I.faults input.old ≤ I.faults input.new }
     {
         self.move_to_front();
@@ -101,7 +103,9 @@ fn read_behind<I: Source>(buffer: &mut [u8], end: usize, input: &mut I) -> Resul
     requires { end < length buffer.old }
     ensures within { IfOk result (λ count. end + count ≤ length buffer.new) }
     ensures front { take end buffer.new ≡ take end buffer.old }
-    ensures bytes { I.tells → IfOk result (λ count. take (end + count) buffer.new ++ I.rest input.new ≡ take end buffer.old ++ I.rest input.old) }
+    ensures bytes { I.tells → IfOk result
+        (λ count. take (end + count) buffer.new ++ I.rest input.new
+        ≡ take end buffer.old ++ I.rest input.old) }
     ensures stops { I.tells → IfOk result (λ count. count ≡ 0 → I.rest input.old ≡ []) }
     ensures rest { I.tells → OnErr result (I.rest input.new ≡ I.rest input.old) }
     ensures cause { HasCause (I.faults input.old) (I.faults input.new) result }

@@ -1,5 +1,5 @@
 use Rattle.std.proofs.Common.{◌≡◌, ◌++◌, take}
-use Rattle.aftr_engine.specs.aftr_engine.Output.{output}
+use Rattle.aftr_engine.specs.egress_gate.Output.{output}
 use Rattle.aftr_engine.proofs.egress_gate.encode.Given as goal
 
 -- the items so far are written

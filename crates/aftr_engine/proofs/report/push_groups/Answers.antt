@@ -1,6 +1,6 @@
 use Rattle.std.proofs.Common.{ℕ, ◌≡◌, List, [], ◌∷◌, ◌++◌, length, length-append, ap, arith}
-use Rattle.aftr_engine.specs.aftr_engine.Report.{groups}
-use Rattle.aftr_engine.proofs.Numbers.{group_pushed}
+use Rattle.aftr_engine.specs.report.Lines.{groups}
+use Rattle.aftr_engine.proofs.Groups.{group_pushed}
 use Rattle.aftr_engine.proofs.report.push_groups.Goals as goal
 
 pub loop-place-preserved : goal.loop-place-preserved

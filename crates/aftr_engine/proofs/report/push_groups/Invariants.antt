@@ -1,5 +1,5 @@
 use Rattle.std.proofs.Common.{◌≡◌, ◌+◌, ◌-◌, ◌*◌, ◌++◌, length}
-use Rattle.aftr_engine.specs.aftr_engine.Report.{groups}
+use Rattle.aftr_engine.specs.report.Lines.{groups}
 use Rattle.aftr_engine.proofs.report.push_groups.Given as goal
 
 abbrev pub invariant-loop-place : goal.invariant-loop-place

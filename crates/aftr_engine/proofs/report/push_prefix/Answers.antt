@@ -1,5 +1,5 @@
 use Rattle.std.proofs.Common.{decimal, arith}
-use Rattle.aftr_engine.specs.aftr_engine.Report.{groups}
+use Rattle.aftr_engine.specs.report.Lines.{groups}
 use Rattle.aftr_engine.proofs.Lines.{appended_three}
 use Rattle.aftr_engine.proofs.report.push_prefix.Goals as goal
 

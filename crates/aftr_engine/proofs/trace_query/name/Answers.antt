@@ -20,8 +20,12 @@ owner_of l = l.owner
 
 pub returns-in-Some : goal.returns-in-Some
 unfolding owner_of
-returns-in-Some c = sym (first_that_passes owner_of (holds c.args.addr c.args.port c.args.at.0) c.args.leases.now ∙ ap (option_map owner_of) (sym c.in-Some.ensures))
+returns-in-Some c =
+    sym (first_that_passes owner_of (holds c.args.addr c.args.port c.args.at.0) c.args.leases.now
+    ∙ ap (option_map owner_of) (sym c.in-Some.ensures))
 
 pub returns-in-None : goal.returns-in-None
 unfolding owner_of
-returns-in-None c = sym (first_that_passes owner_of (holds c.args.addr c.args.port c.args.at.0) c.args.leases.now ∙ ap (option_map owner_of) (sym c.in-None.ensures))
+returns-in-None c =
+    sym (first_that_passes owner_of (holds c.args.addr c.args.port c.args.at.0) c.args.leases.now
+    ∙ ap (option_map owner_of) (sym c.in-None.ensures))

@@ -1,6 +1,6 @@
 use Rattle.std.proofs.Common.{ℕ, ◌<◌, ◌≡◌, List, ◌∷◌, length, sym, ap, ◌∙◌, arith}
 use Rattle.aftr_base.specs.Bytes.{split_on}
-use Rattle.aftr_engine.proofs.Numbers.{too_many, split_some}
+use Rattle.aftr_engine.proofs.WordParts.{too_many, split_some}
 use Rattle.aftr_engine.proofs.words.address_of.Goals as goal
 
 pub returns-in-Some : goal.returns-in-Some

@@ -1,20 +1,22 @@
 use Rattle.std.proofs.Common.{ℕ, ◌+◌, ◌*◌, ◌≡◌, Some, sym, ap, ◌∙◌, arith}
 use Rattle.aftr_base.specs.Value.{ip4}
-use Rattle.aftr_engine.specs.aftr_engine.Words.{value_of, is_octet}
-use Rattle.aftr_engine.proofs.Numbers.{octet_refused, octet_taken, octet_value, third_refused, fourth_refused, all_taken}
+use Rattle.aftr_engine.specs.words.Words.{value_of, is_octet}
+use Rattle.aftr_engine.proofs.WordParts.{octet_refused, octet_taken, octet_value, third_refused, fourth_refused, all_taken}
 use Rattle.aftr_engine.proofs.words.address_with.Goals as goal
 
 pub returns-in_err-c : goal.returns-in_err-c
 returns-in_err-c c =
     let third = c.args.third.now in
     c.from_residual-in_err-c.ensures
-    ∙ sym (third_refused (is_octet c.args.first.now) (is_octet c.args.second.now) (is_octet third) (is_octet c.args.fourth.now) _ (octet_refused (is_octet third) (value_of third) (c.in_err-c.ensures)))
+    ∙ sym (third_refused (is_octet c.args.first.now) (is_octet c.args.second.now) (is_octet third) (is_octet c.args.fourth.now) _
+    (octet_refused (is_octet third) (value_of third) (c.in_err-c.ensures)))
 
 pub returns-in_err-d : goal.returns-in_err-d
 returns-in_err-d c =
     let fourth = c.args.fourth.now in
     c.from_residual-in_err-d.ensures
-    ∙ sym (fourth_refused (is_octet c.args.first.now) (is_octet c.args.second.now) (is_octet c.args.third.now) (is_octet fourth) _ (octet_refused (is_octet fourth) (value_of fourth) (c.in_err-d.ensures)))
+    ∙ sym (fourth_refused (is_octet c.args.first.now) (is_octet c.args.second.now) (is_octet c.args.third.now) (is_octet fourth) _
+    (octet_refused (is_octet fourth) (value_of fourth) (c.in_err-d.ensures)))
 
 pub returns : goal.returns
 returns c =

@@ -2,7 +2,7 @@ use Rattle.std.proofs.Common.{ℕ, ◌+◌, ◌≡◌, List, ◌∷◌, ◌++◌
 use Rattle.std.proofs.lemmas.List.{drop_more, take-append-drop, take_all, take_rest}
 use Rattle.aftr_base.specs.Bytes.{split_on}
 use Rattle.std.specs.List.{list_all}
-use Rattle.aftr_engine.proofs.Numbers.{is_other, split_none, split_found}
+use Rattle.aftr_engine.proofs.WordParts.{is_other, split_none, split_found}
 use Rattle.aftr_engine.proofs.words.cut_at_dot.Goals as goal
 
 pub returns-then-byte-eq46-clause-found : goal.returns-then-byte-eq46-clause-found
@@ -23,5 +23,6 @@ returns-clause-none c =
     let text = c.args.text.now in
     let i : ℕ = c.loop-place.place in
     let whole : take i text ≡ text = take_all i text (omega arith) in
-    let others : list_all (is_other 46) text ≡ true = ap (λ (xs : List ℕ). list_all (is_other 46) xs) (sym whole) ∙ c.loop-place.invariant in
+    let others : list_all (is_other 46) text ≡ true = ap (λ (xs : List ℕ). list_all (is_other 46) xs) (sym whole)
+    ∙ c.loop-place.invariant in
     split_none 46 text others

@@ -1,6 +1,6 @@
 use Rattle.std.proofs.Common.{◌≡◌, take, true}
 use Rattle.std.specs.List.{list_all}
-use Rattle.aftr_engine.proofs.Numbers.{is_other}
+use Rattle.aftr_engine.proofs.WordParts.{is_other}
 use Rattle.aftr_engine.proofs.words.cut_at_dot.Given as goal
 
 abbrev pub invariant-loop-place : goal.invariant-loop-place

@@ -1,6 +1,6 @@
 use Rattle.std.proofs.Common.{ℕ, ◌+◌, ◌*◌, ◌-◌, ◌≡◌, true, drop, get_or, sym, ◌∙◌, arith}
 use Rattle.aftr_base.specs.Value.{is_within}
-use Rattle.aftr_engine.proofs.Numbers.{number_next, number_passes}
+use Rattle.aftr_engine.proofs.WordParts.{number_next, number_passes}
 use Rattle.aftr_engine.proofs.words.number_of.Goals as goal
 
 pub returns-then-number-limit : goal.returns-then-number-limit

@@ -1,6 +1,6 @@
 use Rattle.std.proofs.Common.{◌≡◌, ◌≤◌, drop}
-use Rattle.aftr_engine.specs.aftr_engine.Words.{number_upto}
-use Rattle.aftr_engine.proofs.Numbers.{number_from}
+use Rattle.aftr_engine.specs.words.Words.{number_upto}
+use Rattle.aftr_engine.proofs.WordParts.{number_from}
 use Rattle.aftr_engine.proofs.words.number_of.Given as goal
 
 abbrev pub invariant-loop-digit : goal.invariant-loop-digit

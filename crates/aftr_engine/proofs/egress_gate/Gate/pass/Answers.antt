@@ -2,7 +2,8 @@ use Rattle.std.proofs.Common.{ap, ◌∙◌, subst, List, ℕ, arith}
 use Rattle.aftr_engine.specs.declared.tally.Tally.{Tally}
 use Rattle.plant_io.specs.Sink.{GainsPart}
 use Rattle.plant_io.specs.Story.{sent}
-use Rattle.aftr_engine.proofs.StopSteps.{nothing_done, during_append}
+use Rattle.aftr_engine.proofs.AppendStops.{nothing_done}
+use Rattle.aftr_engine.proofs.GateStops.{during_append}
 use Rattle.aftr_engine.proofs.Spelled.{one_packet}
 use Rattle.aftr_engine.proofs.egress_gate.Gate.pass.Goals as goal
 
@@ -11,7 +12,8 @@ returns-in_err-cause-clause-stops g c = λ tells. during_append _ _ _ _ (nothing
 
 pub returns-in_err-commit_and_send-clause-part : goal.returns-in_err-commit_and_send-clause-part
 returns-in_err-commit_and_send-clause-part g c = λ tells.
-    subst (λ (l : List ℕ). GainsPart l (sent (g.P.Plant.story c.args.plant.now)) (sent (g.P.Plant.story c.commit_and_send.new.plant))) (c.as_slice-2.ensures ∙ c.in_ok-cause.ensures.packets) (c.in_err-commit_and_send.ensures.part tells)
+    subst (λ (l : List ℕ). GainsPart l (sent (g.P.Plant.story c.args.plant.now)) (sent (g.P.Plant.story c.commit_and_send.new.plant)))
+    (c.as_slice-2.ensures ∙ c.in_ok-cause.ensures.packets) (c.in_err-commit_and_send.ensures.part tells)
 
 pub count-requires-clause-sent : goal.count-requires-clause-sent
 count-requires-clause-sent g c =
@@ -20,4 +22,5 @@ count-requires-clause-sent g c =
 
 pub returns-clause-part : goal.returns-clause-part
 returns-clause-part g c = λ tells.
-    subst (λ (l : List ℕ). GainsPart l (sent (g.P.Plant.story c.args.plant.now)) (sent (g.P.Plant.story c.commit_and_send.new.plant))) (c.as_slice-2.ensures ∙ c.in_ok-cause.ensures.packets) (c.in_ok-commit_and_send.ensures.part tells)
+    subst (λ (l : List ℕ). GainsPart l (sent (g.P.Plant.story c.args.plant.now)) (sent (g.P.Plant.story c.commit_and_send.new.plant)))
+    (c.as_slice-2.ensures ∙ c.in_ok-cause.ensures.packets) (c.in_ok-commit_and_send.ensures.part tells)

@@ -24,4 +24,5 @@ loop-lease-preserved c =
     let lt : i < length c.args.leases.now.items = omega (arith, ap length c.deref_mut-lease-items.ensures.value) in
     let x = get_or items i no_lease in
     ap (slice_set items i) c.after_closing.ensures
-    ∙ map_over_more (closing c.args.block) c.args.leases.now.items items i x lt c.loop-lease.invariant (get_or_default items i no_lease x within)
+    ∙ map_over_more (closing c.args.block) c.args.leases.now.items items i x lt c.loop-lease.invariant
+    (get_or_default items i no_lease x within)

@@ -6,7 +6,8 @@ use Rattle.aftr_engine.proofs.lease_log.told.take_records.Given as goal
 -- the records up to here are applied, and nothing else happened to the file
 abbrev pub invariant-loop-at : goal.invariant-loop-at
 invariant-loop-at g l = record {
-  told : g.P.Plant.tells → told_from 0 l.fn.leases.items (drop 0 (content (g.P.Plant.story l.fn.plant))) ≡ told_from l.at l.leases.items (drop l.at (content (g.P.Plant.story l.fn.plant)));
+  told : g.P.Plant.tells → let file = content (g.P.Plant.story l.fn.plant) in
+      told_from 0 l.fn.leases.items (drop 0 file) ≡ told_from l.at l.leases.items (drop l.at file);
   same : g.P.Plant.tells → g.P.Plant.story l.plant ≡ g.P.Plant.story l.fn.plant;
   later : g.P.Plant.disk_faults l.fn.plant ≤ g.P.Plant.disk_faults l.plant;
   outlet : g.P.Plant.out_faults l.plant ≡ g.P.Plant.out_faults l.fn.plant;

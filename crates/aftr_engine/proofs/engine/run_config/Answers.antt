@@ -1,0 +1,35 @@
+use Rattle.std.proofs.Common.{◌<◌, [], length, take, arith}
+use Rattle.xlate_core.proofs.ValidStates.{valid_from}
+use Rattle.aftr_engine.specs.link_records.Frames.{frames_of}
+use Rattle.aftr_engine.specs.engine.Running.{at_first}
+use Rattle.aftr_engine.specs.engine.Texts.{text_of}
+use Rattle.aftr_engine.proofs.Attribution.{names_front}
+use Rattle.aftr_engine.proofs.Firsts.{first_is, first_used}
+use Rattle.aftr_engine.proofs.engine.run_config.Goals as goal
+
+pub returns-clause-run : goal.returns-clause-run
+returns-clause-run g c =
+    let inputs = c.args.inputs.now in
+    let ended = c.translate-ended.result in
+    let some : 0 < length inputs = omega (arith, c.requires.one) in
+    rw (first_used g.I.Source inputs c.index-inputs-0.result c.translate-ended.new.input some, c.reported.ensures.drops)
+    (record {
+      was = ended.status;
+      text = text_of ended.tally ended.answer ended.status;
+      done = c.translate-ended.ensures.ran;
+      printed = c.reported.ensures.printed;
+    })
+
+pub returns-clause-stops : goal.returns-clause-stops
+returns-clause-stops g c = λ reads tells.
+    let inputs = c.args.inputs.now in
+    let some : 0 < length inputs = omega (arith, c.requires.one) in
+    rw (first_is [] g.I.Source.rest inputs c.index-inputs-0.result some) (c.translate-ended.ensures.stops reads tells)
+
+pub returns-clause-names : goal.returns-clause-names
+returns-clause-names g c = λ records.
+    names_front c.args.config records (at_first [] g.I.Source.rest c.args.inputs.now) c.requires.accepted
+
+pub returns-clause-valid : goal.returns-clause-valid
+returns-clause-valid g c = λ records.
+    valid_from c.args.config (take records (frames_of (at_first [] g.I.Source.rest c.args.inputs.now)).events) c.requires.accepted

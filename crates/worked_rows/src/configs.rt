@@ -1,0 +1,71 @@
+//! Runs with configurations that aren't the default one.
+
+use crate::octets::{list_of, octets};
+use crate::packets::{FIRST, FIRST_SENT};
+use aftr_base::{Outcome, Status};
+use aftr_engine::run_config;
+use cfg_text::Config;
+use plant_mem::{MemPlant, MemSink, NoFaultSource};
+use std::process::Abort;
+
+// What a run with a configuration leaves of the first packet: the outlet and the log.
+#[derive(Drop)]
+struct Ending<'a> {
+    sent: &'a [&'a str],
+    log: &'a [&'a str],
+}
+
+// Blocks of 16 ports, and peers that are kept for two minutes.
+fn small_blocks<R: Abort + AllocGlobal>(rt: &R) -> Config {
+    let mut config = Config::defaults(rt.alloc()).expect(rt, "memory for a configuration");
+    config.block_size = 16;
+    config.udp_ms = 120_000;
+    config
+}
+
+// Runs over the first packet, and compares what is left.
+fn check_run<R: Abort + AllocGlobal>(rt: &R, config: Config, ending: &Ending<'_>) {
+    assert!(rt; config.accepted(), "an accepted configuration");
+    assert_eq!(rt; config.ratio, 0);
+    let input = octets(rt, &FIRST);
+    let mut inputs = [NoFaultSource::new(list_of(rt, &input))];
+    let mut plant = MemPlant::new(rt.alloc(), list_of(rt, &[]), list_of(rt, &[]));
+    let mut report = MemSink::new(rt.alloc(), list_of(rt, &[]));
+    let outcome = run_config(rt.alloc(), config, &mut inputs, &mut plant, &mut report);
+    compare(rt, &outcome, &plant, &report, ending);
+}
+
+fn compare<R: Abort + AllocGlobal>(
+    rt: &R,
+    outcome: &Outcome,
+    plant: &MemPlant,
+    report: &MemSink,
+    ending: &Ending<'_>,
+) {
+    assert!(rt; matches!(outcome.status, Status::Ok));
+    assert_eq!(rt;
+        report.written(),
+        b"records 1\nsent 1\nmarks 0\n".as_slice()
+    );
+    assert_eq!(rt; plant.sent(), octets(rt, ending.sent).as_slice());
+    assert_eq!(rt; plant.content(), octets(rt, ending.log).as_slice());
+}
+
+#[test]
+fn the_default_configuration(rt: HostRuntime) {
+    let config = Config::defaults(rt.alloc()).expect(&rt, "memory for a configuration");
+    let ending = Ending {
+        sent: &[FIRST_SENT],
+        log: &["00000000000f4240 10 20010db8010000000000000000000000 38 c0000208 0400 05ff"],
+    };
+    check_run(&rt, config, &ending);
+}
+
+#[test]
+fn blocks_of_sixteen_ports(rt: HostRuntime) {
+    let ending = Ending {
+        sent: &[FIRST_SENT],
+        log: &["00000000000f4240 10 20010db8010000000000000000000000 38 c0000208 0400 040f"],
+    };
+    check_run(&rt, small_blocks(&rt), &ending);
+}

@@ -1,0 +1,129 @@
+-- The row that a search found, by its place in the table.
+use Rattle.std.proofs.Common.{◌≡◌, ltb, ◌++◌, ℕ, suc, ◌+◌, ◌<◌, ◌≤◌, Bool, true, false, not, cond, List, [], ◌∷◌, length, Option, Some}
+use Rattle.std.proofs.Common.{None, find, option_map, refl, sym, ap, ◌∙◌, subst, inl, inr, arith}
+use Rattle.std.specs.Prelude.{◌||◌, Result, Ok, Err, if◌then◌else◌, slice_get, is_some}
+use Rattle.std.specs.List.{position, position_or_len}
+use Rattle.std.proofs.lemmas.List.Folds.{find_at}
+use Rattle.std.proofs.lemmas.Option.{slice_get_cases}
+use Rattle.aftr_base.specs.declared.value.Ip4.{Ip4}
+use Rattle.aftr_base.specs.declared.value.Ext.{Ext}
+use Rattle.aftr_base.specs.declared.value.InnerKey.{InnerKey}
+use Rattle.aftr_base.specs.declared.value.Proto.{Proto}
+use Rattle.aftr_base.specs.declared.event.DropCause.{DropCause}
+use Rattle.aftr_base.specs.declared.event.DropCause.TheVariants.{QuotaPeers}
+use Rattle.xlate_core.specs.declared.nat_mapping.Row.{Row}
+use Rattle.xlate_core.specs.declared.nat_mapping.RowId.{RowId}
+use Rattle.xlate_core.specs.declared.nat_mapping.Peer.{Peer}
+use Rattle.xlate_core.specs.declared.grant.Grant.{Grant}
+use Rattle.xlate_core.specs.declared.grant.Sender.{Sender}
+use Rattle.xlate_core.specs.nat_mapping.Rows.{row_id, row_of, row_at, is_of, is_at, find_out, find_in, has_peer, with_peer, touched}
+use Rattle.xlate_core.specs.nat_mapping.Rows.{touched_at}
+use Rattle.xlate_core.specs.Grant.{at_once, kept_place, place_for, granted, may_peer, peer_of, row_for, rows_after, after_row}
+use Rattle.xlate_core.specs.State.{State}
+use Rattle.std.proofs.lemmas.Bool.{ltb-true, ltb-false}
+use Rattle.aftr_base.proofs.Founds.{some_inj, mapped_some}
+
+-- ---- a search that answers the item, and one that answers where it stands
+
+in_list : {X : Type 0} (xs : List X) (b : Bool) (n i : ℕ) → cond b (Some n) None ≡ Some i → n ≡ i
+in_list xs true n i h = some_inj n i h
+in_list xs false n i h = cc
+
+pub item_there : {X : Type 0} (p : X → Bool) (xs : List X) (i : ℕ) → position p xs ≡ Some i → find p xs ≡ slice_get xs i
+item_there p xs i h = find_at p xs ∙ ap (slice_get xs) (in_list xs _ (position_or_len p xs) i h)
+
+in_by : (b : Bool) (n i len : ℕ) → ltb n len ≡ b → cond b (Some n) None ≡ Some i → i < len
+in_by true n i len e h = subst (λ (k : ℕ). k < len) (some_inj n i h) (ltb-true n len e)
+in_by false n i len e h = cc
+
+pub in_range : {X : Type 0} (p : X → Bool) (xs : List X) (i : ℕ) → position p xs ≡ Some i → i < length xs
+in_range p xs i h = in_by _ (position_or_len p xs) i (length xs) refl h
+
+pub item_at : {X : Type 0} (xs : List X) (i : ℕ) → i < length xs → (x : X) × (i < length xs) × (slice_get xs i ≡ Some x)
+item_at xs i lt = elim (slice_get_cases xs i).1 [ inl (x, inside, here, same) ↦ (x, inside, here) | inr (le, none) ↦ absurd (omega arith) ]
+
+past_end : {X : Type 0} (xs : List X) (i : ℕ) → length xs ≤ i → slice_get xs i ≡ None
+past_end xs i past = elim (slice_get_cases xs i).1 [ inl (x, lt, here, same) ↦ absurd (omega arith) | inr (le, none) ↦ none ]
+
+none_by : (b : Bool) (n : ℕ) → cond b (Some n) None ≡ None → b ≡ false
+none_by true n h = cc
+none_by false n h = refl
+
+pub no_item : {X : Type 0} (p : X → Bool) (xs : List X) → position p xs ≡ None → find p xs ≡ None
+no_item p xs h = find_at p xs ∙ past_end xs (position_or_len p xs) (ltb-false _ _ (none_by _ (position_or_len p xs) h))
+
+-- ---- the row that is touched
+
+touched_by : (key : InnerKey) (peer : Peer) (r : Row) (rows : List Row) (n : ℕ) (b : Bool) → touched_at n peer rows ≡ touched key peer rows
+    → touched_at (cond (not b) (1 + n) 0) peer (r ∷ rows)
+    ≡ (if b then record r { peers = with_peer peer r.peers } ∷ rows else r ∷ touched key peer rows)
+touched_by key peer r rows n true h = refl
+touched_by key peer r rows n false h =
+    let next : 1 + n ≡ suc n = omega arith in
+    ap (λ (m : ℕ). touched_at m peer (r ∷ rows)) next ∙ ap (λ (rs : List Row). r ∷ rs) h
+
+touched_first : (key : InnerKey) (peer : Peer) (rows : List Row)
+    → touched_at (position_or_len (is_of key) rows) peer rows ≡ touched key peer rows
+touched_first key peer [] = refl
+touched_first key peer (r ∷ rows) = touched_by key peer r rows (position_or_len (is_of key) rows) (is_of key r)
+    (touched_first key peer rows)
+
+-- ---- by what the table's searches answer
+
+pub place_of : (o : Option ℕ) (id : RowId) → Some id ≡ option_map row_id o → o ≡ Some id.0
+place_of o id h = let (n, found, same) = mapped_some row_id o id (sym h) in found ∙ ap (λ (r : RowId). Some r.0) same
+
+pub no_place : (o : Option ℕ) → None ≡ option_map row_id o → o ≡ None
+no_place None h = refl
+no_place (Some n) h = cc
+
+abbrev by_row : State → Sender → InnerKey → Ip4 → Option Row → Result Grant DropCause
+by_row s who key remote o = elim o [
+  | Some r ↦ kept_place s who remote r
+  | None ↦ place_for s who key.proto
+]
+
+pub granted_there : (s : State) (who : Sender) (key : InnerKey) (remote : Ip4) (rows : List Row) (id : RowId) (r : Row)
+    → rows ≡ s.rows → Some id ≡ row_of key s.rows → slice_get rows id.0 ≡ Some r
+    → kept_place s who remote r ≡ granted s who key remote
+granted_there s who key remote rows id r same found here =
+    let row = item_there (is_of key) s.rows id.0 (place_of (position (is_of key) s.rows) id found) in
+    sym (ap (by_row s who key remote) (row ∙ ap (λ (l : List Row). slice_get l id.0) (sym same) ∙ here))
+
+pub granted_anew : (s : State) (who : Sender) (key : InnerKey) (remote : Ip4) → None ≡ row_of key s.rows
+    → place_for s who key.proto ≡ granted s who key remote
+granted_anew s who key remote none = sym
+    (ap (by_row s who key remote) (no_item (is_of key) s.rows (no_place (position (is_of key) s.rows) none)))
+
+pub kept_there : (who : Sender) (key : InnerKey) (peer : Peer) (ext : Ext) (rows : List Row) (id : RowId) → Some id ≡ row_of key rows
+    → touched_at id.0 peer rows ≡ rows_after who key peer ext rows
+kept_there who key peer ext rows id found =
+    let at = place_of (position (is_of key) rows) id found in
+    let (r, lt, here) = item_at rows id.0 (in_range (is_of key) rows id.0 at) in
+    let some : is_some (find_out key rows) ≡ true = ap (λ (o : Option Row). is_some o) (item_there (is_of key) rows id.0 at ∙ here) in
+    let first : touched_at id.0 peer rows ≡ touched key peer rows =
+    ap (λ (n : ℕ). touched_at n peer rows) (sym (in_list rows _ (position_or_len (is_of key) rows) id.0 at))
+    ∙ touched_first key peer rows in
+    first ∙ sym (ap (λ (b : Bool). if b then touched key peer rows else rows ++ row_for who key peer ext ∷ []) some)
+
+pub kept_anew : (who : Sender) (key : InnerKey) (peer : Peer) (ext : Ext) (rows : List Row) → None ≡ row_of key rows
+    → rows ++ row_for who key peer ext ∷ [] ≡ rows_after who key peer ext rows
+kept_anew who key peer ext rows none =
+    let nobody : is_some (find_out key rows) ≡ false = ap (λ (o : Option Row). is_some o)
+    (no_item (is_of key) rows (no_place (position (is_of key) rows) none)) in
+    sym (ap (λ (b : Bool). if b then touched key peer rows else rows ++ row_for who key peer ext ∷ []) nobody)
+
+pub after_row_is : (who : Sender) (key : InnerKey) (remote : Ip4) (ext : Ext) (x s : State) (rows : List Row) → x ≡ s
+    → rows ≡ rows_after who key (peer_of s remote) ext s.rows
+    → (let y : State = record x { rows = rows } in y ≡ after_row who key remote ext s)
+after_row_is who key remote ext x s rows same put =
+    ap (λ (y : State). let z : State = record y { rows = rows } in z) same
+    ∙ ap (λ (rs : List Row). let z : State = record s { rows = rs } in z) put
+
+pub found_there : (proto : Proto) (ext : Ext) (rows : List Row) (id : RowId) (r : Row) → Some id ≡ row_at proto ext rows
+    → slice_get rows id.0 ≡ Some r → Some r ≡ find_in proto ext rows
+found_there proto ext rows id r found here = sym
+    (item_there (is_at proto ext) rows id.0 (place_of (position (is_at proto ext) rows) id found) ∙ here)
+
+pub found_none : (proto : Proto) (ext : Ext) (rows : List Row) → None ≡ row_at proto ext rows → None ≡ find_in proto ext rows
+found_none proto ext rows none = sym (no_item (is_at proto ext) rows (no_place (position (is_at proto ext) rows) none))

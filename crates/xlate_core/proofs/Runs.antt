@@ -1,0 +1,150 @@
+-- Runs, one record after another, and how much comes of them.
+use Rattle.std.proofs.Common.{◌≡◌, ℕ, ◌*◌, ◌≤◌, true, false, List, [], ◌∷◌, ◌++◌, length, refl, sym, ap, ◌∙◌, arith, append_assoc}
+use Rattle.std.proofs.Common.{length-append}
+use Rattle.std.specs.Prelude.{Option, Some, None, option_to_list, filter, take}
+use Rattle.std.proofs.lemmas.List.{append-nil, length-take, length-map}
+use Rattle.aftr_base.specs.declared.event.Event.{Event}
+use Rattle.aftr_base.specs.declared.event.EventKind.{EventKind}
+use Rattle.aftr_base.specs.declared.event.DropCause.{DropCause}
+use Rattle.aftr_base.specs.declared.event.LogEvent.{LogEvent}
+use Rattle.aftr_base.specs.declared.row.LeaseRow.{LeaseRow}
+use Rattle.xlate_core.specs.declared.nat_mapping.Row.{Row}
+use Rattle.xlate_core.specs.declared.grant.Grant.{Grant}
+use Rattle.xlate_core.specs.declared.step_out.Item.{Item}
+use Rattle.xlate_core.specs.State.{State, Step, block_event}
+use Rattle.xlate_core.specs.Grant.{opening_events}
+use Rattle.xlate_core.specs.nat_mapping.Rows.{expired}
+use Rattle.xlate_core.specs.Expiry.{Closed, is_idle, closings_of, at_moment}
+use Rattle.xlate_core.specs.Step.{step, treatment, log_of}
+use Rattle.xlate_core.specs.Run.{Run, run}
+use Rattle.xlate_core.proofs.Clock.{by_moment}
+use Rattle.xlate_core.proofs.Treatments.{by_way}
+
+-- ---- a run and what follows it
+
+pub record IsThen (first next both : Run) : Type 0 where
+  pub state : both.state ≡ next.state
+  pub items : both.items ≡ first.items ++ next.items
+  pub log : both.log ≡ first.log ++ next.log
+  pub drops : both.drops ≡ first.drops ++ next.drops
+
+-- more behind what a step gave
+after_more : {A : Type 0} (front first next both : List A) → both ≡ first ++ next → front ++ both ≡ front ++ first ++ next
+after_more {A = A} front first next both same = ap (λ (l : List A). front ++ l) same ∙ sym (append_assoc front first next)
+
+pub run_append : (s : State) (seen rest : List Event) → IsThen (run s seen) (run (run s seen).state rest) (run s (seen ++ rest))
+run_append s [] rest = record { state = refl; items = refl; log = refl; drops = refl }
+run_append s (e ∷ seen) rest =
+    let t = step s e in
+    let first = run t.state seen in
+    let next = run first.state rest in
+    let both = run t.state (seen ++ rest) in
+    let more = run_append t.state seen rest in
+    record {
+      state = more.state;
+      items = after_more t.items first.items next.items both.items more.items;
+      log = after_more (log_of t) first.log next.log both.log more.log;
+      drops = after_more (option_to_list t.drop) first.drops next.drops both.drops more.drops;
+    }
+
+-- one more record after a run
+pub record GoesOn (before after : Run) (t : Step) : Type 0 where
+  pub state : after.state ≡ t.state
+  pub items : after.items ≡ before.items ++ t.items
+  pub log : after.log ≡ before.log ++ log_of t
+  pub drops : after.drops ≡ before.drops ++ option_to_list t.drop
+
+pub run_push : (s : State) (seen : List Event) (e : Event) → GoesOn (run s seen) (run s (seen ++ e ∷ [])) (step (run s seen).state e)
+run_push s seen e =
+    let before = run s seen in
+    let t = step before.state e in
+    let whole = run_append s seen (e ∷ []) in
+    record {
+      state = whole.state;
+      items = whole.items ∙ ap (λ (l : List Item). before.items ++ l) (append-nil t.items);
+      log = whole.log ∙ ap (λ (l : List LogEvent). before.log ++ l) (append-nil (log_of t));
+      drops = whole.drops ∙ ap (λ (l : List DropCause). before.drops ++ l) (append-nil (option_to_list t.drop));
+    }
+
+-- ---- a record gives at most one packet, closes at most 512 leases and opens at most one, and is dropped at most once
+
+pub record IsSmall (t : Step) : Type 0 where
+  pub items : length t.items ≤ 1
+  pub closings : length t.closings ≤ 512
+  pub openings : length t.openings ≤ 1
+  pub drops : length (option_to_list t.drop) ≤ 1
+
+-- the record's own treatment closes nothing
+pub record IsLone (t : Step) : Type 0 where
+  pub items : length t.items ≤ 1
+  pub closings : t.closings ≡ []
+  pub openings : length t.openings ≤ 1
+  pub drops : length (option_to_list t.drop) ≤ 1
+
+at_most_one : {A : Type 0} (o : Option A) → length (option_to_list o) ≤ 1
+at_most_one None = omega arith
+at_most_one (Some x) = omega arith
+
+one_opening : (s : State) (g : Grant) → length (opening_events s g) ≤ 1
+one_opening s g = omega (arith, length-map (option_to_list g.lease) (block_event true s.clock), at_most_one g.lease)
+
+pub lone_treated : (s : State) (bytes : List ℕ) (kind : EventKind) → IsLone (treatment s kind bytes)
+lone_treated s bytes kind = by_way IsLone s bytes kind (record {
+  rests = record { items = omega arith; closings = refl; openings = omega arith; drops = omega arith };
+  drops = λ cause. record { items = omega arith; closings = refl; openings = omega arith; drops = omega arith };
+  delivers = λ d row by. record { items = omega arith; closings = refl; openings = omega arith; drops = omega arith };
+  forwards = λ got g by. record { items = omega arith; closings = refl; openings = one_opening s g; drops = omega arith };
+})
+
+few_taken : (n now : ℕ) (rows : List Row) (leases : List LeaseRow) → length (closings_of n now rows leases) ≤ n
+few_taken n now rows leases =
+    let idle = filter (is_idle rows) leases in
+    omega (arith, length-map (take n idle) (block_event false now), length-take n idle)
+
+pub few_closed : (at : ℕ) (s : State) → length (at_moment at s).closings ≤ 512
+few_closed at s =
+    by_moment (λ (c : Closed). length c.closings ≤ 512) at s (λ le. omega arith)
+    (λ lt. few_taken 512 at (expired at s.rows) s.leases)
+
+-- what closes as a record is treated closed as the clock was raised
+pub step_closings : (s : State) (e : Event) → (step s e).closings ≡ (at_moment e.at.0 s).closings
+step_closings s e =
+    let before = at_moment e.at.0 s in
+    ap (λ (l : List LogEvent). before.closings ++ l) (lone_treated before.state e.bytes e.kind).closings ∙ append-nil before.closings
+
+pub small_step : (s : State) (e : Event) → IsSmall (step s e)
+small_step s e =
+    let own = lone_treated (at_moment e.at.0 s).state e.bytes e.kind in
+    record {
+      items = own.items;
+      closings = omega (arith, few_closed e.at.0 s, ap length (step_closings s e));
+      openings = own.openings;
+      drops = own.drops;
+    }
+
+-- what the log is told of one record
+pub short_log : (s : State) (e : Event) → length (log_of (step s e)) ≤ 513
+short_log s e =
+    let t = step s e in
+    let small = small_step s e in
+    omega (arith, length-append t.closings t.openings, small.closings, small.openings)
+
+-- ---- so a run is no longer than its records
+
+pub record IsShort (r : Run) (count : ℕ) : Type 0 where
+  pub items : length r.items ≤ count
+  pub log : length r.log ≤ 513 * count
+  pub drops : length r.drops ≤ count
+
+pub short_run : (s : State) (events : List Event) → IsShort (run s events) (length events)
+short_run s [] = record { items = omega arith; log = omega arith; drops = omega arith }
+short_run s (e ∷ es) =
+    let t = step s e in
+    let next = run t.state es in
+    let one = small_step s e in
+    let more = short_run t.state es in
+    record {
+      items = omega (arith, length-append t.items next.items, one.items, more.items);
+      log = omega (arith, length-append (log_of t) next.log, short_log s e, more.log);
+      drops = omega (arith, length-append (option_to_list t.drop) next.drops, one.drops, more.drops);
+    }

@@ -1,0 +1,143 @@
+-- In which ways a record is treated.
+use Rattle.std.proofs.Common.{◌≡◌, ℕ, ◌+◌, ◌<◌, ◌≤◌, false, cond, List, Some, All, Result, Ok, Err, ok_or, nat_le, nat_lt, refl, ap, subst}
+use Rattle.std.proofs.lemmas.Bool.{leb-true, ltb-true}
+use Rattle.aftr_base.specs.Attempt.{◌>>=◌}
+use Rattle.aftr_base.specs.declared.value.Ip6.{Ip6}
+use Rattle.aftr_base.specs.declared.value.Subscriber.{Subscriber}
+use Rattle.aftr_base.specs.declared.event.EventKind.{EventKind}
+use Rattle.aftr_base.specs.declared.event.DropCause.{DropCause}
+use Rattle.aftr_base.specs.declared.event.DropCause.TheVariants.{Settling, Snapped as SnappedCause, BadPacket, NoProtocol, NoMapping}
+use Rattle.aftr_base.specs.declared.event.DropCause.TheVariants.{BadChange}
+use Rattle.aftr_base.specs.declared.event.EventKind.TheVariants.{Softwire, Public, Tick, Change, Snapped, Foreign, Stray}
+use Rattle.cfg_text.specs.declared.config.Config.{Config}
+use Rattle.xlate_core.specs.declared.nat_mapping.Row.{Row}
+use Rattle.xlate_core.specs.declared.grant.Grant.{Grant}
+use Rattle.xlate_core.specs.declared.grant.Sender.{Sender}
+use Rattle.xlate_core.specs.nat_mapping.Rows.{find_in, is_at}
+use Rattle.xlate_core.specs.subscriber_table.Under.{subscriber_of}
+use Rattle.xlate_core.specs.State.{State, Step}
+use Rattle.xlate_core.specs.Datagram.{Datagram, place_on}
+use Rattle.xlate_core.specs.Outbound.{Outbound, outbound_of, outward, tunnelled}
+use Rattle.xlate_core.specs.Inbound.{inbound_of}
+use Rattle.xlate_core.specs.Step.{treatment, mapped, admitted_outbound, admitted_inbound, sent_out, sent_in, dropped, quiet}
+use Rattle.wire_l4.specs.Places.{proto_of}
+use Rattle.aftr_base.proofs.Founds.{found_in}
+use Rattle.xlate_core.proofs.Attempts.{step_gave, test_passed, was_there, ok_inj}
+
+-- ---- what was received
+
+-- what a subscriber's record was opened to: its sender, and the datagram of the packet inside
+pub record IsFrom (c : Config) (bytes : List ℕ) (got : Outbound) : Type 0 where
+  pub owns : subscriber_of c got.who.softwire ≡ Some got.who.owner
+  pub inner : List ℕ
+  pub opens : tunnelled c bytes ≡ Ok (got.who, inner)
+  pub holds : outward c inner ≡ Ok got.datagram
+
+abbrev sender_of : Ip6 → Subscriber → Sender
+sender_of softwire owner = record { softwire = softwire; owner = owner }
+
+abbrev IsKnown : Config → Sender → Type 0
+IsKnown c who = subscriber_of c who.softwire ≡ Some who.owner
+
+-- whatever a tunnel is, where a softwire and what it carries are read from it
+known_by : {A : Type 0} (c : Config) (r : Result A DropCause) (softwire : A → Ip6) (inner : A → Result (List ℕ) DropCause) (e : DropCause)
+    (sent : Sender × List ℕ)
+    → (r >>= (λ t. ok_or (subscriber_of c (softwire t)) e >>= (λ owner. inner t >>= (λ p. Ok (sender_of (softwire t) owner, p))))) ≡ Ok sent
+    → IsKnown c sent.0
+known_by c r softwire inner e sent h =
+    let (tunnel, opens, next) = step_gave r _ sent h in
+    let (owner, known, next') = step_gave (ok_or (subscriber_of c (softwire tunnel)) e) _ sent next in
+    let (packet, whole, same) = step_gave (inner tunnel) _ sent next' in
+    let is = ap (λ (x : Sender × List ℕ). x.0) (ok_inj (sender_of (softwire tunnel) owner, packet) sent _ refl same) in
+    subst (IsKnown c) is (was_there (subscriber_of c (softwire tunnel)) e owner known)
+
+sender_known : (c : Config) (bytes : List ℕ) (sent : Sender × List ℕ) → tunnelled c bytes ≡ Ok sent → IsKnown c sent.0
+sender_known c bytes sent h = known_by c _ _ _ _ sent h
+
+pub is_from : (c : Config) (bytes : List ℕ) (got : Outbound) → outbound_of c bytes ≡ Ok got → IsFrom c bytes got
+is_from c bytes got h =
+    let (sent, opens, next) = step_gave (tunnelled c bytes) _ got h in
+    let (d, holds, same) = step_gave (outward c sent.1) _ got next in
+    let made = λ (x : Datagram). let o : Outbound = record { who = sent.0; datagram = x } in o in
+    subst (IsFrom c bytes) (ok_inj (made d) got _ refl same)
+    (record { owns = sender_known c bytes sent opens; inner = sent.1; opens = opens; holds = holds })
+
+-- a subscriber's record that goes out
+pub record IsOut (s : State) (bytes : List ℕ) (got : Outbound) (g : Grant) : Type 0 where
+  pub settled : s.floor < s.clock
+  pub admits : outbound_of s.config bytes ≡ Ok got
+  pub owns : subscriber_of s.config got.who.softwire ≡ Some got.who.owner
+  pub grants : mapped s got ≡ Ok g
+
+-- a record from the public side that goes in, by this row
+pub record IsIn (s : State) (bytes : List ℕ) (d : Datagram) (row : Row) : Type 0 where
+  pub settled : s.floor < s.clock
+  pub admits : inbound_of s.config bytes ≡ Ok d
+  pub finds : find_in (proto_of d.body) (place_on false d) s.rows ≡ Some row
+  pub fits : 40 + d.header.fields.total ≤ s.config.softwire_mtu
+
+-- what holds of each row holds of it
+pub of_its_row : {s : State} {bytes : List ℕ} {d : Datagram} {row : Row} (P : Row → Type 0) → IsIn s bytes d row → All P s.rows → P row
+of_its_row {s = s} {d = d} {row = row} P by all = found_in P (is_at (proto_of d.body) (place_on false d)) s.rows row all by.finds
+
+abbrev both : Outbound → Grant → Outbound × Grant
+both got g = (got, g)
+
+pub is_out : (s : State) (bytes : List ℕ) (got : Outbound) (g : Grant) → admitted_outbound s bytes ≡ Ok (both got g) → IsOut s bytes got g
+is_out s bytes got g h =
+    let (late, inside) = test_passed (nat_lt s.floor s.clock) Settling _ (both got g) h in
+    let (o, admits, next) = step_gave (outbound_of s.config bytes) _ (both got g) inside in
+    let (x, grants, same) = step_gave (mapped s o) _ (both got g) next in
+    let is : both o x ≡ both got g = ok_inj (both o x) (both got g) _ refl same in
+    subst (λ (z : Outbound × Grant). IsOut s bytes z.0 z.1) is (record {
+      settled = ltb-true s.floor s.clock late;
+      admits = admits;
+      owns = (is_from s.config bytes o admits).owns;
+      grants = grants;
+    })
+
+abbrev datagram_by : Datagram → Row → Datagram × Row
+datagram_by d row = (d, row)
+
+pub is_in : (s : State) (bytes : List ℕ) (d : Datagram) (row : Row) → admitted_inbound s bytes ≡ Ok (datagram_by d row) → IsIn s bytes d row
+is_in s bytes d row h =
+    let (late, inside) = test_passed (nat_lt s.floor s.clock) Settling _ (datagram_by d row) h in
+    let (x, admits, next) = step_gave (inbound_of s.config bytes) _ (datagram_by d row) inside in
+    let (r, found, next') = step_gave (ok_or (find_in (proto_of x.body) (place_on false x) s.rows) NoMapping) _ (datagram_by d row) next in
+    let (fits, same) = test_passed (nat_le (40 + x.header.fields.total) s.config.softwire_mtu) NoProtocol _ (datagram_by d row) next' in
+    let is : datagram_by x r ≡ datagram_by d row = ok_inj (datagram_by x r) (datagram_by d row) _ refl same in
+    subst (λ (z : Datagram × Row). IsIn s bytes z.0 z.1) is (record {
+      settled = ltb-true s.floor s.clock late;
+      admits = admits;
+      finds = was_there (find_in (proto_of x.body) (place_on false x) s.rows) NoMapping r found;
+      fits = leb-true (40 + x.header.fields.total) s.config.softwire_mtu fits;
+    })
+
+-- ---- the ways of a treatment
+
+-- what holds of a record that changes nothing, of a drop, of a packet that goes in and of one that goes out
+pub record EachWay (P : Step → Type 0) (s : State) (bytes : List ℕ) : Type 0 where
+  pub rests : P (quiet s)
+  pub drops : (cause : DropCause) → P (dropped s cause)
+  pub delivers : (d : Datagram) (row : Row) → IsIn s bytes d row → P (sent_in s d row)
+  pub forwards : (got : Outbound) (g : Grant) → IsOut s bytes got g → P (sent_out s got g)
+
+way_out : (P : Step → Type 0) (s : State) (bytes : List ℕ) (r : Result (Outbound × Grant) DropCause) → admitted_outbound s bytes ≡ r
+    → EachWay P s bytes → P (elim r [ Err cause ↦ dropped s cause | Ok found ↦ sent_out s found.0 found.1 ])
+way_out P s bytes (Err cause) e each = each.drops cause
+way_out P s bytes (Ok found) e each = each.forwards found.0 found.1 (is_out s bytes found.0 found.1 e)
+
+way_in : (P : Step → Type 0) (s : State) (bytes : List ℕ) (r : Result (Datagram × Row) DropCause) → admitted_inbound s bytes ≡ r
+    → EachWay P s bytes → P (elim r [ Err cause ↦ dropped s cause | Ok found ↦ sent_in s found.0 found.1 ])
+way_in P s bytes (Err cause) e each = each.drops cause
+way_in P s bytes (Ok found) e each = each.delivers found.0 found.1 (is_in s bytes found.0 found.1 e)
+
+-- what holds each way holds of the treatment
+pub by_way : (P : Step → Type 0) (s : State) (bytes : List ℕ) (kind : EventKind) → EachWay P s bytes → P (treatment s kind bytes)
+by_way P s bytes Softwire each = way_out P s bytes (admitted_outbound s bytes) refl each
+by_way P s bytes Public each = way_in P s bytes (admitted_inbound s bytes) refl each
+by_way P s bytes Tick each = each.rests
+by_way P s bytes Change each = each.drops BadChange
+by_way P s bytes Snapped each = each.drops (cond (nat_lt s.floor s.clock) SnappedCause Settling)
+by_way P s bytes Foreign each = each.drops (cond (nat_lt s.floor s.clock) NoProtocol Settling)
+by_way P s bytes Stray each = each.drops (cond (nat_lt s.floor s.clock) BadPacket Settling)

@@ -1,0 +1,225 @@
+-- A valid state stays valid as the clock is raised.
+use Rattle.std.proofs.Common.{◌≡◌, ℕ, zero, suc, ◌<◌, ◌≤◌, Bool, true, false, not, ◌&&◌, is_none, List, [], ◌∷◌, length, map, get_or}
+use Rattle.std.proofs.Common.{Option, Some, None, nat_le, nat_lt, refl, sym, subst, arith}
+use Rattle.std.specs.Prelude.{if◌then◌else◌}
+use Rattle.std.specs.List.{AllZip}
+use Rattle.std.proofs.lemmas.Bool.{both_ways, and_parts, and_from, and_right, not_from_true, leb-true, le-leb, eqb-true, eq-eqb}
+use Rattle.std.proofs.lemmas.List.Folds.{list_any_at}
+use Rattle.std.proofs.lemmas.List.Elements.{All-map, All-filter}
+use Rattle.aftr_base.specs.Value.{ip4_eq, subscriber_eq, is_within, moment}
+use Rattle.aftr_base.specs.Plan.{is_prefix6}
+use Rattle.aftr_base.specs.Row.{is_open, overlaps, ended}
+use Rattle.aftr_base.specs.declared.value.Ext.{Ext}
+use Rattle.aftr_base.specs.declared.value.Moment.{Moment}
+use Rattle.aftr_base.specs.declared.value.Subscriber.{Subscriber}
+use Rattle.aftr_base.specs.declared.row.LeaseRow.{LeaseRow}
+use Rattle.aftr_base.proofs.Pairwise.{pairs_filter, pairs_map, pairs_zip, all_zip, any_zip, zip_same}
+use Rattle.xlate_core.specs.declared.nat_mapping.Row.{Row}
+use Rattle.xlate_core.specs.nat_mapping.Rows.{in_use, live_peers, expired}
+use Rattle.xlate_core.specs.State.{State}
+use Rattle.xlate_core.specs.Expiry.{Closed, is_idle, with_idle_ended, closing_limit, at_moment}
+use Rattle.xlate_core.specs.Valid.{IsValid, lies_in_lease, is_granted, is_owned, are_alike, clash, is_lease_by}
+use Rattle.xlate_core.proofs.Clock.{by_moment}
+
+-- ---- a place in a lease
+
+pub record LiesIn (owner : Subscriber) (e : Ext) (l : LeaseRow) : Type 0 where
+  pub lasts : is_open l ≡ true
+  pub owns : subscriber_eq owner l.owner ≡ true
+  pub addr : e.addr.0 ≡ l.addr.0
+  pub low : l.first ≤ e.port
+  pub high : e.port ≤ l.last
+
+abbrev pub lies_here : Subscriber → Ext → LeaseRow → Bool
+lies_here owner e l = is_open l && subscriber_eq owner l.owner && ip4_eq e.addr l.addr && is_within l.first l.last e.port
+
+pub here_parts : (owner : Subscriber) (e : Ext) (l : LeaseRow) → lies_here owner e l ≡ true → LiesIn owner e l
+here_parts owner e l h =
+    let a = and_parts (is_open l && subscriber_eq owner l.owner && ip4_eq e.addr l.addr) (is_within l.first l.last e.port) h in
+    let b = and_parts (is_open l && subscriber_eq owner l.owner) (ip4_eq e.addr l.addr) a.0 in
+    let c = and_parts (is_open l) (subscriber_eq owner l.owner) b.0 in
+    let d = and_parts (nat_le l.first e.port) (nat_le e.port l.last) a.1 in
+    record {
+      lasts = c.0;
+      owns = c.1;
+      addr = eqb-true e.addr.0 l.addr.0 b.1;
+      low = leb-true l.first e.port d.0;
+      high = leb-true e.port l.last d.1;
+    }
+
+pub here_from : (owner : Subscriber) (e : Ext) (l : LeaseRow) → LiesIn owner e l → lies_here owner e l ≡ true
+here_from owner e l h =
+    and_from (is_open l && subscriber_eq owner l.owner && ip4_eq e.addr l.addr) (is_within l.first l.last e.port)
+    (and_from (is_open l && subscriber_eq owner l.owner) (ip4_eq e.addr l.addr)
+    (and_from (is_open l) (subscriber_eq owner l.owner) h.lasts h.owns) (eq-eqb e.addr.0 l.addr.0 h.addr))
+    (and_from (nat_le l.first e.port) (nat_le e.port l.last) (le-leb l.first e.port h.low) (le-leb e.port l.last h.high))
+
+-- that of a row
+pub lies_parts : (r : Row) (l : LeaseRow) → lies_in_lease r l ≡ true → LiesIn r.owner r.ext l
+lies_parts r l h = here_parts r.owner r.ext l h
+
+pub lies_from : (r : Row) (l : LeaseRow) → LiesIn r.owner r.ext l → lies_in_lease r l ≡ true
+lies_from r l h = here_from r.owner r.ext l h
+
+-- ---- which leases end
+
+-- a lease as it was, or ended now because it was idle
+pub data MayEnd (now : ℕ) (rows : List Row) (l m : LeaseRow) : Type 0 where
+  Lasts : m ≡ l → MayEnd now rows l m
+  Idle : is_idle rows l ≡ true → m ≡ ended now l → MayEnd now rows l m
+
+may_end : (now : ℕ) (rows : List Row) (l : LeaseRow) (b : Bool) → is_idle rows l ≡ b → MayEnd now rows l (if b then ended now l else l)
+may_end now rows l true e = Idle e refl
+may_end now rows l false e = Lasts refl
+
+pub idle_end : (n now : ℕ) (rows : List Row) (ls : List LeaseRow) → AllZip (MayEnd now rows) ls (with_idle_ended n now rows ls)
+idle_end zero now rows ls = zip_same (MayEnd now rows) (λ l. Lasts refl) ls
+idle_end (suc n) now rows [] = tt
+idle_end (suc n) now rows (l ∷ ls) =
+    (may_end now rows l (is_idle rows l) refl, idle_end (if is_idle rows l then n else suc n) now rows ls)
+
+-- an idle lease is open
+pub idle_open : (rows : List Row) (l : LeaseRow) → is_idle rows l ≡ true → is_open l ≡ true
+idle_open rows l idle = (and_parts (is_open l) (not (in_use l.addr l.first l.last rows)) idle).0
+
+-- a lease that has the place of a row isn't idle, and stays
+used : (rows : List Row) (k : ℕ) (d : Row) (l : LeaseRow) → k < length rows → lies_in_lease (get_or rows k d) l ≡ true
+    → in_use l.addr l.first l.last rows ≡ true
+used rows k d l lt lies =
+    let r = get_or rows k d in
+    let h = lies_parts r l lies in
+    let low = le-leb l.first r.ext.port h.low in
+    let high = le-leb r.ext.port l.last h.high in
+    let here : (ip4_eq l.addr r.ext.addr && is_within l.first l.last r.ext.port) ≡ true =
+    and_from (ip4_eq l.addr r.ext.addr) (is_within l.first l.last r.ext.port) (eq-eqb l.addr.0 r.ext.addr.0 (sym h.addr))
+    (and_from (nat_le l.first r.ext.port) (nat_le r.ext.port l.last) low high) in
+    list_any_at (λ (q : Row). ip4_eq l.addr q.ext.addr && is_within l.first l.last q.ext.port) rows k d lt here
+
+not_idle : (rows : List Row) (l : LeaseRow) → in_use l.addr l.first l.last rows ≡ true → is_idle rows l ≡ false
+not_idle rows l u = and_right (is_open l) (not (in_use l.addr l.first l.last rows)) (not_from_true (in_use l.addr l.first l.last rows) u)
+
+stays : {now : ℕ} {rows : List Row} {l m : LeaseRow} (k : ℕ) (d : Row) → k < length rows → MayEnd now rows l m
+    → lies_in_lease (get_or rows k d) l ≡ true → lies_in_lease (get_or rows k d) m ≡ true
+stays {rows = rows} k d lt (Lasts same) h = subst (λ (x : LeaseRow). lies_in_lease (get_or rows k d) x ≡ true) (sym same) h
+stays {rows = rows} {l = l} k d lt (Idle idle e) h = absurd (both_ways (is_idle rows l) (not_idle rows l (used rows k d l lt h)) idle)
+
+-- ---- what each lease keeps
+
+-- an end, where there is one, is past the begin and not to come
+abbrev pub ends_by : ℕ → ℕ → Option Moment → Bool
+ends_by since now u = elim u [ None ↦ true | Some until ↦ nat_le since until.0 && nat_le until.0 now ]
+
+ends_later : (since before now : ℕ) (u : Option Moment) → before ≤ now → ends_by since before u ≡ true → ends_by since now u ≡ true
+ends_later since before now None le h = refl
+ends_later since before now (Some m) le h =
+    let a = and_parts (nat_le since m.0) (nat_le m.0 before) h in
+    let b = leb-true m.0 before a.1 in
+    and_from (nat_le since m.0) (nat_le m.0 now) a.0 (le-leb m.0 now (omega arith))
+
+pub record IsLeaseBy (now : ℕ) (l : LeaseRow) : Type 0 where
+  pub owner : is_prefix6 l.owner.0 ≡ true
+  pub range : l.first ≤ l.last
+  pub begun : l.since.0 ≤ now
+  pub over : ends_by l.since.0 now l.until ≡ true
+
+pub lease_parts : (now : ℕ) (l : LeaseRow) → is_lease_by now l ≡ true → IsLeaseBy now l
+lease_parts now l h =
+    let a = and_parts (is_prefix6 l.owner.0 && nat_le l.first l.last && nat_le l.since.0 now) (ends_by l.since.0 now l.until) h in
+    let b = and_parts (is_prefix6 l.owner.0 && nat_le l.first l.last) (nat_le l.since.0 now) a.0 in
+    let c = and_parts (is_prefix6 l.owner.0) (nat_le l.first l.last) b.0 in
+    record { owner = c.0; range = leb-true l.first l.last c.1; begun = leb-true l.since.0 now b.1; over = a.1 }
+
+pub lease_from : (now : ℕ) (l : LeaseRow) → IsLeaseBy now l → is_lease_by now l ≡ true
+lease_from now l h =
+    and_from (is_prefix6 l.owner.0 && nat_le l.first l.last && nat_le l.since.0 now) (ends_by l.since.0 now l.until)
+    (and_from (is_prefix6 l.owner.0 && nat_le l.first l.last) (nat_le l.since.0 now)
+    (and_from (is_prefix6 l.owner.0) (nat_le l.first l.last) h.owner (le-leb l.first l.last h.range)) (le-leb l.since.0 now h.begun)) h.over
+
+lease_on : {before now : ℕ} {rows : List Row} {l m : LeaseRow} → before ≤ now → MayEnd now rows l m → IsLeaseBy before l → IsLeaseBy now m
+lease_on {before = before} {now = now} {l = l} le (Lasts same) h = subst (IsLeaseBy now) (sym same) (record {
+  owner = h.owner;
+  range = h.range;
+  begun = omega (arith, h.begun);
+  over = ends_later l.since.0 before now l.until le h.over;
+})
+lease_on {now = now} {l = l} le (Idle idle e) h =
+    let begun : l.since.0 ≤ now = omega (arith, h.begun) in
+    subst (IsLeaseBy now) (sym e) (record {
+      owner = h.owner;
+      range = h.range;
+      begun = begun;
+      over = and_from (nat_le l.since.0 now) (nat_le now now) (le-leb l.since.0 now begun) (le-leb now now (omega arith));
+    })
+
+lease_later : (before now : ℕ) (rows : List Row) (l m : LeaseRow) → before ≤ now → MayEnd now rows l m
+    → is_lease_by before l ≡ true → is_lease_by now m ≡ true
+lease_later before now rows l m le z h = lease_from now m (lease_on le z (lease_parts before l h))
+
+-- ---- what two leases keep
+
+-- the lease was over before that moment, by its end
+abbrev pub over_before : ℕ → Option Moment → Bool
+over_before at u = elim u [ None ↦ false | Some until ↦ nat_lt until.0 at ]
+
+-- an open lease shares its ports with no later one, and so stays apart from it when it ends
+apart_open : (b : Bool) (at at' : ℕ) (u u' : Option Moment) → is_none u ≡ true
+    → (b && not (over_before at u)) ≡ false → (b && not (over_before at' u')) ≡ false
+apart_open true at at' None u' none h = cc
+apart_open true at at' (Some m) u' none h = cc
+apart_open false at at' u u' none h = refl
+
+clash_ended : {now : ℕ} {rows : List Row} {l u : LeaseRow} (m : LeaseRow) → MayEnd now rows l u → clash l m ≡ false → clash u m ≡ false
+clash_ended m (Lasts same) h = subst (λ (x : LeaseRow). clash x m ≡ false) (sym same) h
+clash_ended {now = now} {rows = rows} {l = l} m (Idle idle e) h =
+    let over = overlaps l m.addr m.first m.last in
+    let begin = m.since.0 in
+    subst (λ (x : LeaseRow). clash x m ≡ false) (sym e) (apart_open over begin begin l.until (Some (moment now)) (idle_open rows l idle) h)
+
+clash_later : {now : ℕ} {rows : List Row} {l m u v : LeaseRow} → MayEnd now rows l u → MayEnd now rows m v
+    → clash l m ≡ false → clash u v ≡ false
+clash_later {m = m} {u = u} z (Lasts same) h = subst (λ (x : LeaseRow). clash u x ≡ false) (sym same) (clash_ended m z h)
+clash_later {m = m} {u = u} z (Idle idle e) h = subst (λ (x : LeaseRow). clash u x ≡ false) (sym e) (clash_ended m z h)
+
+-- ---- the state
+
+-- the rows that a later moment leaves
+pub rows_left : (s : State) (at : ℕ) → IsValid s → IsValid (record s { rows = expired at s.rows })
+rows_left s at v =
+    let lasts = λ (r : Row). nat_lt 0 (length r.peers) in
+    let live = live_peers at in
+    let all = map live s.rows in
+    let granted = λ (r : Row). is_granted s r ≡ true in
+    let owned = λ (r : Row). is_owned s r ≡ true in
+    let apart = λ (r q : Row). are_alike r q ≡ false in
+    record {
+      granted = All-filter lasts granted all (All-map granted live s.rows v.granted);
+      owned = All-filter lasts owned all (All-map owned live s.rows v.owned);
+      apart = pairs_filter apart lasts all (pairs_map apart apart live (λ r q h. h) s.rows v.apart);
+      leases = v.leases;
+      disjoint = v.disjoint;
+    }
+
+-- the leases that it leaves, where the rows stay
+pub leases_left : (s : State) (now : ℕ) → s.clock ≤ now → IsValid s
+    → IsValid (record s { clock = now; leases = with_idle_ended closing_limit now s.rows s.leases })
+leases_left s now le v =
+    let Z = MayEnd now s.rows in
+    let after = with_idle_ended closing_limit now s.rows s.leases in
+    let z = idle_end closing_limit now s.rows s.leases in
+    let before = λ (l : LeaseRow). is_lease_by s.clock l ≡ true in
+    let later = λ (l : LeaseRow). is_lease_by now l ≡ true in
+    let apart = λ (l m : LeaseRow). clash l m ≡ false in
+    record {
+      granted = λ k d lt.
+          let lies = lies_in_lease (get_or s.rows k d) in
+          any_zip Z lies lies (λ l m y h. stays k d lt y h) s.leases after z (v.granted k d lt);
+      owned = v.owned;
+      apart = v.apart;
+      leases = all_zip Z before later (λ l m y h. lease_later s.clock now s.rows l m le y h) s.leases after z v.leases;
+      disjoint = pairs_zip Z apart apart (λ l m u w y x h. clash_later y x h) s.leases after z v.disjoint;
+    }
+
+pub valid_moment : (at : ℕ) (s : State) → IsValid s → IsValid (at_moment at s).state
+valid_moment at s v =
+    by_moment (λ (c : Closed). IsValid c.state) at s (λ le. v)
+    (λ lt. leases_left (record s { rows = expired at s.rows }) at (omega (arith, lt)) (rows_left s at v))

@@ -1,0 +1,117 @@
+-- Every state that a run comes to is valid.
+use Rattle.std.proofs.Common.{◌≡◌, ℕ, ◌≤◌, true, List, [], ◌∷◌, All, max, refl, sym, ◌∙◌, subst, arith}
+use Rattle.std.proofs.lemmas.List.Elements.{All-nil, All-head, All-tail}
+use Rattle.aftr_base.specs.declared.event.Event.{Event}
+use Rattle.aftr_base.specs.declared.event.EventKind.{EventKind}
+use Rattle.cfg_text.specs.declared.config.Config.{Config}
+use Rattle.cfg_text.specs.Accepted.{is_accepted}
+use Rattle.xlate_core.specs.declared.grant.Grant.{Grant}
+use Rattle.xlate_core.specs.Outbound.{Outbound}
+use Rattle.xlate_core.specs.State.{State, Step}
+use Rattle.xlate_core.specs.Datagram.{key_of}
+use Rattle.xlate_core.specs.Expiry.{at_moment}
+use Rattle.xlate_core.specs.Valid.{IsValid, is_granted, is_owned, is_lease_by}
+use Rattle.xlate_core.specs.Step.{step, treatment}
+use Rattle.xlate_core.specs.Run.{run, start}
+use Rattle.xlate_core.proofs.Clock.{config_stays, moment_clock}
+use Rattle.xlate_core.proofs.ValidExpiry.{valid_moment}
+use Rattle.xlate_core.proofs.ValidForwards.{valid_grant}
+use Rattle.xlate_core.proofs.ValidGrants.{IsGrant}
+use Rattle.xlate_core.proofs.Treatments.{IsOut, by_way}
+
+pub valid_start : (c : Config) → IsValid (start c)
+valid_start c = record {
+  granted = All-nil (λ r. is_granted (start c) r ≡ true);
+  owned = All-nil (λ r. is_owned (start c) r ≡ true);
+  apart = λ i j d lt within. absurd (omega arith);
+  leases = All-nil (λ l. is_lease_by 0 l ≡ true);
+  disjoint = λ i j d lt within. absurd (omega arith);
+}
+
+-- ---- a record's own treatment
+
+-- at the same moment, under the same configuration
+pub record IsBeside (s : State) (t : Step) : Type 0 where
+  pub clock : t.state.clock ≡ s.clock
+  pub config : t.state.config ≡ s.config
+
+pub treated_beside : (s : State) (bytes : List ℕ) (kind : EventKind) → IsBeside s (treatment s kind bytes)
+treated_beside s bytes kind = by_way (IsBeside s) s bytes kind (record {
+  rests = record { clock = refl; config = refl };
+  drops = λ cause. record { clock = refl; config = refl };
+  delivers = λ d r by. record { clock = refl; config = refl };
+  forwards = λ got g by. record { clock = refl; config = refl };
+})
+
+-- a packet that goes out was granted its place
+pub grant_out : {s : State} {bytes : List ℕ} {got : Outbound} {g : Grant} → is_accepted s.config ≡ true → IsOut s bytes got g
+    → IsGrant s got.who (key_of got.who.softwire got.datagram) got.datagram.header.fields.dst g
+grant_out ok by = record { accepted = ok; owns = by.owns; grants = by.grants }
+
+pub valid_treated : (s : State) (bytes : List ℕ) (kind : EventKind) → is_accepted s.config ≡ true → IsValid s
+    → IsValid (treatment s kind bytes).state
+valid_treated s bytes kind ok v = by_way (λ (t : Step). IsValid t.state) s bytes kind (record {
+  rests = v;
+  drops = λ cause. v;
+  delivers = λ d r by. v;
+  forwards = λ got g by. valid_grant (grant_out ok by) v;
+})
+
+-- ---- a step
+
+-- the configuration stays
+pub step_config : (s : State) (e : Event) → (step s e).state.config ≡ s.config
+step_config s e = (treated_beside (at_moment e.at.0 s).state e.bytes e.kind).config ∙ config_stays e.at.0 s
+
+pub moment_accepted : (at : ℕ) (s : State) → is_accepted s.config ≡ true → is_accepted (at_moment at s).state.config ≡ true
+moment_accepted at s ok = subst (λ (c : Config). is_accepted c ≡ true) (sym (config_stays at s)) ok
+
+pub step_accepted : (s : State) (e : Event) → is_accepted s.config ≡ true → is_accepted (step s e).state.config ≡ true
+step_accepted s e ok = subst (λ (c : Config). is_accepted c ≡ true) (sym (step_config s e)) ok
+
+-- the clock is the greatest moment so far
+pub step_clock_is : (s : State) (e : Event) → (step s e).state.clock ≡ max s.clock e.at.0
+step_clock_is s e = (treated_beside (at_moment e.at.0 s).state e.bytes e.kind).clock ∙ moment_clock e.at.0 s
+
+-- it doesn't fall
+pub step_clock : (s : State) (e : Event) → s.clock ≤ (step s e).state.clock
+step_clock s e = omega (arith, step_clock_is s e)
+
+-- nor does it pass a limit that the moments keep to
+pub step_clock_most : (limit : ℕ) (s : State) (e : Event) → s.clock ≤ limit → e.at.0 ≤ limit → (step s e).state.clock ≤ limit
+step_clock_most limit s e le at = omega (arith, step_clock_is s e, le, at)
+
+pub valid_step : (s : State) (e : Event) → is_accepted s.config ≡ true → IsValid s → IsValid (step s e).state
+valid_step s e ok v = valid_treated (at_moment e.at.0 s).state e.bytes e.kind (moment_accepted e.at.0 s ok) (valid_moment e.at.0 s v)
+
+-- ---- a run
+
+pub run_config : (s : State) (events : List Event) → (run s events).state.config ≡ s.config
+run_config s [] = refl
+run_config s (e ∷ es) = run_config (step s e).state es ∙ step_config s e
+
+pub run_accepted : (s : State) (events : List Event) → is_accepted s.config ≡ true → is_accepted (run s events).state.config ≡ true
+run_accepted s events ok = subst (λ (c : Config). is_accepted c ≡ true) (sym (run_config s events)) ok
+
+pub run_clock : (s : State) (events : List Event) → s.clock ≤ (run s events).state.clock
+run_clock s [] = omega arith
+run_clock s (e ∷ es) = omega (arith, step_clock s e, run_clock (step s e).state es)
+
+-- each record's moment is one of these
+abbrev pub AreBy : ℕ → List Event → Type 0
+AreBy limit events = All (λ (e : Event). e.at.0 ≤ limit) events
+
+pub run_clock_most : (limit : ℕ) (s : State) (events : List Event) → s.clock ≤ limit → AreBy limit events
+    → (run s events).state.clock ≤ limit
+run_clock_most limit s [] le all = le
+run_clock_most limit s (e ∷ es) le all =
+    run_clock_most limit (step s e).state es (step_clock_most limit s e le (All-head (λ (x : Event). x.at.0 ≤ limit) e es all))
+    (All-tail (λ (x : Event). x.at.0 ≤ limit) e es all)
+
+pub valid_run : (s : State) (events : List Event) → is_accepted s.config ≡ true → IsValid s → IsValid (run s events).state
+valid_run s [] ok v = v
+valid_run s (e ∷ es) ok v = valid_run (step s e).state es (step_accepted s e ok) (valid_step s e ok v)
+
+-- from the start on
+pub valid_from : (c : Config) (events : List Event) → is_accepted c ≡ true → IsValid (run (start c) events).state
+valid_from c events ok = valid_run (start c) events ok (valid_start c)

@@ -1,0 +1,234 @@
+-- What a datagram is that was received, and how long it is as it goes on.
+use Rattle.std.proofs.Common.{◌≡◌, ℕ, ◌+◌, ◌-◌, ◌/◌, ◌≤◌, Bool, true, false, cond, not, ◌&&◌, ◌||◌, ◌==◌, List, [], ◌∷◌, ◌++◌, length, take}
+use Rattle.std.proofs.Common.{drop, Option, Some, None, option_map, Ok, nat_le, nat_lt, refl, sym, ap, ◌∙◌, subst, arith, length-append}
+use Rattle.std.proofs.lemmas.Bool.{and_parts, leb-true, ltb-false, eqb-true, not-true, or_parts}
+use Rattle.std.proofs.lemmas.List.{length-take, length-drop, nil_from_length}
+use Rattle.aftr_base.specs.Attempt.{refused_as}
+use Rattle.aftr_base.specs.Bytes.{be16, be32, be128, u8_at, u16_at}
+use Rattle.aftr_base.specs.Checksum.{is_sound, adjusted}
+use Rattle.aftr_base.specs.declared.value.Ip6.{Ip6}
+use Rattle.aftr_base.specs.declared.value.Ext.{Ext}
+use Rattle.aftr_base.specs.declared.value.Proto.TheVariants.{Udp}
+use Rattle.aftr_base.specs.declared.event.DropCause.TheVariants.{BadPacket}
+use Rattle.cfg_text.specs.declared.config.Config.{Config}
+use Rattle.softwire.specs.Tunnel.{tunnel_packet}
+use Rattle.wire_ip4.specs.Grammar.{Header, header_bytes, header_of, front_of, len_of, is_piece, packet_of as ip4_packet}
+use Rattle.wire_l4.specs.Grammar.{Segment, Echo, Transport, Ports, Query, segment_bytes, segment_at, sum_bytes, transport_bytes, udp_of}
+use Rattle.wire_l4.specs.Places.{replaced, segment_sum}
+use Rattle.xlate_core.specs.State.{is_ours}
+use Rattle.xlate_core.specs.Datagram.{Datagram, datagram_bytes, translated, place_on}
+use Rattle.xlate_core.specs.Packet.{plain_ip4, datagram_of, has_route, is_routable}
+use Rattle.xlate_core.specs.Outbound.{outward}
+use Rattle.xlate_core.specs.Inbound.{inbound_of}
+use Rattle.xlate_core.proofs.Attempts.{step_gave, test_passed, gave_anyway, ok_inj}
+
+-- ---- an IPv4 packet
+
+abbrev front_with : Header → List ℕ → Header × List ℕ
+front_with h rest = (h, rest)
+
+record IsFront (bytes : List ℕ) (front : Header × List ℕ) : Type 0 where
+  least : 20 ≤ len_of bytes
+  most : len_of bytes ≤ length bytes
+  options : length front.0.options + 20 ≡ len_of bytes
+  rest : length front.1 + len_of bytes ≡ length bytes
+
+is_front : (bytes : List ℕ) (front : Header × List ℕ) → front_of bytes ≡ Ok front → IsFront bytes front
+is_front bytes front h =
+    let inside = (test_passed (nat_le 20 (length bytes)) _ _ front h).1 in
+    let fourth = (test_passed (u8_at 0 bytes / 16 == 4) _ _ front inside).1 in
+    let (lens, same) = test_passed (nat_le 20 (len_of bytes) && nat_le (len_of bytes) (length bytes)) _ _ front fourth in
+    let both = and_parts (nat_le 20 (len_of bytes)) (nat_le (len_of bytes) (length bytes)) lens in
+    let least = leb-true 20 (len_of bytes) both.0 in
+    let most = leb-true (len_of bytes) (length bytes) both.1 in
+    let made = front_with (header_of bytes) (drop (len_of bytes) bytes) in
+    subst (IsFront bytes) (ok_inj made front _ refl same) (record {
+      least = least;
+      most = most;
+      options = omega (arith, length-drop 20 (take (len_of bytes) bytes), length-take (len_of bytes) bytes, least, most);
+      rest = omega (arith, length-drop (len_of bytes) bytes, most);
+    })
+
+-- its total length is that of its header and its payload
+packet_total : (bytes : List ℕ) (p : Header × List ℕ) → ip4_packet bytes ≡ Ok p → p.0.fields.total ≡ 20 + length p.0.options + length p.1
+packet_total bytes p h =
+    let (front, opens, next) = step_gave (front_of bytes) _ p h in
+    let total = front.0.fields.total in
+    let (fits, next') = test_passed (nat_le (len_of bytes) total && nat_le total (length bytes)) _ _ p next in
+    let same = (test_passed (is_sound (take (len_of bytes) bytes)) _ _ p next').1 in
+    let both = and_parts (nat_le (len_of bytes) total) (nat_le total (length bytes)) fits in
+    let least = leb-true (len_of bytes) total both.0 in
+    let most = leb-true total (length bytes) both.1 in
+    let is = is_front bytes front opens in
+    let made = front_with front.0 (take (total - len_of bytes) front.1) in
+    subst (λ (q : Header × List ℕ). q.0.fields.total ≡ 20 + length q.0.options + length q.1) (ok_inj made p _ refl same)
+    (omega (arith, length-take (total - len_of bytes) front.1, least, most, is.least, is.most, is.options, is.rest))
+
+record IsPlain (p : Header × List ℕ) : Type 0 where
+  options : p.0.options ≡ []
+  total : p.0.fields.total ≡ 20 + length p.1
+
+is_plain : (bytes : List ℕ) (p : Header × List ℕ) → plain_ip4 bytes ≡ Ok p → IsPlain p
+is_plain bytes p h =
+    let (q, whole, next) = step_gave (refused_as (ip4_packet bytes) BadPacket) _ p h in
+    let (bare, same) = test_passed (length q.0.options == 0) _ _ p next in
+    let none = eqb-true (length q.0.options) 0 bare in
+    subst IsPlain (ok_inj q p _ refl same) (record {
+      options = nil_from_length q.0.options none;
+      total = omega (arith, packet_total bytes q (gave_anyway (ip4_packet bytes) BadPacket q whole), none);
+    })
+
+-- ---- the datagram in it
+
+length_sum : (o : Option ℕ) (f : ℕ → ℕ) → length (sum_bytes (option_map f o)) ≡ length (sum_bytes o)
+unfolding be16
+length_sum None f = refl
+length_sum (Some n) f = refl
+
+length_word : (n : ℕ) → length (sum_bytes (Some n)) ≡ 2
+unfolding be16
+length_word n = refl
+
+length_segment : (s : Segment) → length (segment_bytes s) ≡ 4 + length s.fixed + length (sum_bytes s.sum) + length s.rest
+unfolding be16
+length_segment s = omega (arith, length-append (s.fixed ++ sum_bytes s.sum) s.rest, length-append s.fixed (sum_bytes s.sum))
+
+length_read : (bytes : List ℕ) → 8 ≤ length bytes → length (segment_bytes (segment_at 6 bytes)) ≡ length bytes
+length_read bytes long =
+    let whole = length_segment (segment_at 6 bytes) in
+    let sum : length (sum_bytes (segment_at 6 bytes).sum) ≡ 2 = length_word (u16_at 6 bytes) in
+    omega (arith, whole, sum, length-take 2 (drop 4 bytes), length-drop 4 bytes, length-drop 8 bytes, long)
+
+-- a UDP datagram that came whole, in a packet without options that may be forwarded
+pub record IsWhole (d : Datagram) : Type 0 where
+  pub options : d.header.options ≡ []
+  pub more : d.header.fields.more ≡ false
+  pub offset : d.header.fields.offset ≡ 0
+  pub proto : d.header.fields.proto ≡ 17
+  pub ttl : 2 ≤ d.header.fields.ttl
+  pub segment : Segment
+  pub body : d.body ≡ Ports Udp segment
+  pub sum : (n : ℕ) × (segment.sum ≡ Some n)
+  pub total : d.header.fields.total ≡ 20 + length (transport_bytes d.body)
+
+abbrev datagram_with : Header → Segment → Datagram
+datagram_with h s = record { header = h; body = Ports Udp s }
+
+is_whole : (p : Header × List ℕ) (d : Datagram) → IsPlain p → is_piece p.0 ≡ false → datagram_of p ≡ Ok d → IsWhole d
+is_whole p d plain unbroken h =
+    let (proto, next) = test_passed (p.0.fields.proto == 17) _ _ d h in
+    let (ttl, next') = test_passed (nat_le 2 p.0.fields.ttl) _ _ d next in
+    let (s, holds, same) = step_gave (refused_as (udp_of p.1) BadPacket) _ d next' in
+    let read = gave_anyway (udp_of p.1) BadPacket s holds in
+    let (long, inside) = test_passed (nat_le 8 (length p.1)) _ _ s read in
+    let one = (test_passed (nat_le 8 (u16_at 4 p.1) && nat_le (u16_at 4 p.1) (length p.1)) _ _ s inside).1 in
+    let is : segment_at 6 p.1 ≡ s = ok_inj (segment_at 6 p.1) s _ refl one in
+    let pieces = or_parts p.0.fields.more (nat_lt 0 p.0.fields.offset) unbroken in
+    let len = length_read p.1 (leb-true 8 (length p.1) long) in
+    subst IsWhole (ok_inj (datagram_with p.0 s) d _ refl same)
+    (subst (λ (x : Segment). IsWhole (datagram_with p.0 x)) is (record {
+      options = plain.options;
+      more = pieces.0;
+      offset = omega (arith, ltb-false 0 p.0.fields.offset pieces.1);
+      proto = eqb-true p.0.fields.proto 17 proto;
+      ttl = leb-true 2 p.0.fields.ttl ttl;
+      segment = segment_at 6 p.1;
+      body = refl;
+      sum = (u16_at 6 p.1, refl);
+      total = omega (arith, plain.total, len);
+    }))
+
+-- ---- either way
+
+-- what a subscriber sends: it has a route, to an address outside the pool, and isn't too long
+pub record IsOutward (c : Config) (d : Datagram) : Type 0 where
+  pub whole : IsWhole d
+  pub routed : has_route d.header ≡ true
+  pub leaves : is_ours c d.header.fields.dst ≡ false
+  pub fits : d.header.fields.total ≤ c.public_mtu
+
+header_kept : (p : Header × List ℕ) (d : Datagram) → datagram_of p ≡ Ok d → p.0 ≡ d.header
+header_kept p d h =
+    let next = (test_passed (p.0.fields.proto == 17) _ _ d h).1 in
+    let next' = (test_passed (nat_le 2 p.0.fields.ttl) _ _ d next).1 in
+    let (s, holds, same) = step_gave (refused_as (udp_of p.1) BadPacket) _ d next' in
+    ap (λ (x : Datagram). x.header) (ok_inj (datagram_with p.0 s) d _ refl same)
+
+pub is_outward : (c : Config) (inner : List ℕ) (d : Datagram) → outward c inner ≡ Ok d → IsOutward c d
+is_outward c inner d h =
+    let (p, plain, next) = step_gave (plain_ip4 inner) _ d h in
+    let (unbroken, next1) = test_passed (not (is_piece p.0)) _ _ d next in
+    let (routed, next2) = test_passed (has_route p.0) _ _ d next1 in
+    let (x, holds, next3) = step_gave (datagram_of p) _ d next2 in
+    let f = x.header.fields in
+    let (leaves, next4) = test_passed (not (is_ours c f.dst)) _ _ d next3 in
+    let next5 = (test_passed (not f.dont_cut || nat_le f.total c.public_mtu) _ _ d next4).1 in
+    let (fits, same) = test_passed (nat_le f.total c.public_mtu) _ _ d next5 in
+    subst (IsOutward c) (ok_inj x d _ refl same) (record {
+      whole = is_whole p x (is_plain inner p plain) (not-true (is_piece p.0) unbroken) holds;
+      routed = subst (λ (k : Header). has_route k ≡ true) (header_kept p x holds) routed;
+      leaves = not-true (is_ours c f.dst) leaves;
+      fits = leb-true f.total c.public_mtu fits;
+    })
+
+-- what the public side sends: from a routed address outside the pool to one of the pool
+pub record IsInward (c : Config) (d : Datagram) : Type 0 where
+  pub whole : IsWhole d
+  pub enters : is_ours c d.header.fields.dst ≡ true
+  pub routed : is_routable d.header.fields.src ≡ true
+  pub foreign : is_ours c d.header.fields.src ≡ false
+
+pub is_inward : (c : Config) (bytes : List ℕ) (d : Datagram) → inbound_of c bytes ≡ Ok d → IsInward c d
+is_inward c bytes d h =
+    let (p, plain, next) = step_gave (plain_ip4 bytes) _ d h in
+    let f = p.0.fields in
+    let (enters, next1) = test_passed (is_ours c f.dst) _ _ d next in
+    let (unbroken, next2) = test_passed (not (is_piece p.0)) _ _ d next1 in
+    let (from, holds) = test_passed (is_routable f.src && not (is_ours c f.src)) _ _ d next2 in
+    let both = and_parts (is_routable f.src) (not (is_ours c f.src)) from in
+    let same = header_kept p d holds in
+    record {
+      whole = is_whole p d (is_plain bytes p plain) (not-true (is_piece p.0) unbroken) holds;
+      enters = subst (λ (k : Header). is_ours c k.fields.dst ≡ true) same enters;
+      routed = subst (λ (k : Header). is_routable k.fields.src ≡ true) same both.0;
+      foreign = subst (λ (k : Header). is_ours c k.fields.src ≡ false) same (not-true (is_ours c f.src) both.1);
+    }
+
+-- ---- as it goes on
+
+length_header : (h : Header) (rest : List ℕ) → length (header_bytes h ++ rest) ≡ 20 + length h.options + length rest
+unfolding be16 be32
+length_header h rest = omega (arith, length-append h.options rest)
+
+length_echo : (e : Echo) → length (transport_bytes (Query e)) ≡ 6 + length e.rest
+unfolding be16
+length_echo e = omega arith
+
+-- the transport stays as long as it was
+length_replaced : (source : Bool) (old new : Ext) (t : Transport)
+    → length (transport_bytes (replaced source old new t)) ≡ length (transport_bytes t)
+length_replaced source old new (Ports p s) =
+    let after : Segment = record s {
+      src = cond source new.port s.src;
+      dst = cond source s.dst new.port;
+      sum = option_map (segment_sum p old new) s.sum;
+    } in
+    let before : length (transport_bytes (Ports p s)) ≡ 4 + length s.fixed + length (sum_bytes s.sum) + length s.rest = length_segment s in
+    omega (arith, before, length_sum s.sum (segment_sum p old new), length_segment after)
+length_replaced source old new (Query e) =
+    let after : Echo = record e { id = new.port; sum = adjusted e.sum (old.port ∷ []) (new.port ∷ []) } in
+    length_echo after ∙ sym (length_echo e)
+
+-- and a datagram without options as long as its total length says
+pub length_translated : (source : Bool) (new : Ext) (d : Datagram) → IsWhole d
+    → length (datagram_bytes (translated source new d)) ≡ d.header.fields.total
+length_translated source new d is =
+    let t = translated source new d in
+    let none : length d.header.options ≡ 0 = ap length is.options in
+    omega (arith, length_header t.header (transport_bytes t.body), length_replaced source (place_on source d) new d.body, none, is.total)
+
+-- a packet to a softwire is 40 bytes longer than what is in it
+pub length_tunnelled : (aftr softwire : Ip6) (class next : ℕ) (bytes : List ℕ)
+    → length (tunnel_packet aftr softwire class next bytes) ≡ 40 + length bytes
+unfolding be16 be32 be128
+length_tunnelled aftr softwire class next bytes = omega arith

@@ -1,0 +1,67 @@
+-- A record from the softwire side: the rules that refuse it, in their order, up to the grant (RFC 6333 5, 6; RFC 2473 3.3).
+use Rattle.std.specs.Prelude.{ℕ, not, ◌||◌, nat_le, List, ok_or, Result, Ok, Err}
+use Rattle.aftr_base.specs.Attempt.{◌>>=◌, ◌>>◌, require}
+use Rattle.aftr_base.specs.declared.event.DropCause.{DropCause}
+use Rattle.aftr_base.specs.declared.event.DropCause.TheVariants.{BadPacket, NotUs, NotTunnel, UnknownSubscriber, NoRoute, NoProtocol}
+use Rattle.aftr_base.specs.declared.event.DropCause.TheVariants.{TooBig}
+use Rattle.cfg_text.specs.declared.config.Config.{Config}
+use Rattle.softwire.specs.declared.from_tunnel.DecapBad.{DecapBad}
+use Rattle.softwire.specs.declared.from_tunnel.DecapBad.TheVariants.{Packet, NotUs as NotOurs, NotTunnel as NoTunnel}
+use Rattle.softwire.specs.Tunnel.{Carried, decapsulated}
+use Rattle.wire_ip6.specs.Chain.{Behind, InnerPacket, InnerPiece, OtherHeader, CutShort}
+use Rattle.wire_ip4.specs.Grammar.{is_piece}
+use Rattle.xlate_core.specs.declared.grant.Sender.{Sender}
+use Rattle.xlate_core.specs.State.{is_ours}
+use Rattle.xlate_core.specs.Datagram.{Datagram}
+use Rattle.xlate_core.specs.Packet.{plain_ip4, has_route, datagram_of}
+use Rattle.xlate_core.specs.subscriber_table.Under.{subscriber_of}
+
+-- who sent a datagram, and the datagram
+pub record Outbound : Type 0 where
+  pub who : Sender
+  pub datagram : Datagram
+
+-- no softwire packet for this end of it
+abbrev pub drop_for : DecapBad → DropCause
+drop_for Packet = BadPacket
+drop_for NotOurs = NotUs
+drop_for NoTunnel = NotTunnel
+
+abbrev pub carried_to : Config → List ℕ → Result Carried DropCause
+carried_to c bytes = elim (decapsulated c.aftr bytes) [ Ok tunnel ↦ Ok tunnel | Err bad ↦ Err (drop_for bad) ]
+
+-- an IPv4 packet that came whole: fragments of the IPv6 packet aren't put together
+abbrev pub inner_of : Behind → Result (List ℕ) DropCause
+inner_of (InnerPacket bytes) = Ok bytes
+inner_of (InnerPiece h bytes) = Err NoProtocol
+inner_of OtherHeader = Err NotTunnel
+inner_of CutShort = Err BadPacket
+
+-- the inner packet of a subscriber
+abbrev pub tunnelled : Config → List ℕ → Result (Sender × List ℕ) DropCause
+tunnelled c bytes = do
+  tunnel ← carried_to c bytes
+  owner ← ok_or (subscriber_of c tunnel.softwire) UnknownSubscriber
+  inner ← inner_of tunnel.behind
+  let who : Sender = record { softwire = tunnel.softwire; owner = owner }
+  Ok (who, inner)
+
+-- the datagram in it, which goes to the public side as it is: it isn't put together before, nor cut there
+abbrev pub outward : Config → List ℕ → Result Datagram DropCause
+outward c inner = do
+  packet ← plain_ip4 inner
+  require (not (is_piece packet.0)) NoProtocol
+  require (has_route packet.0) NoRoute
+  d ← datagram_of packet
+  let f = d.header.fields
+  require (not (is_ours c f.dst)) NoProtocol
+  require (not f.dont_cut || nat_le f.total c.public_mtu) TooBig
+  require (nat_le f.total c.public_mtu) NoProtocol
+  Ok d
+
+abbrev pub outbound_of : Config → List ℕ → Result Outbound DropCause
+outbound_of c bytes = do
+  sent ← tunnelled c bytes
+  d ← outward c sent.1
+  let got : Outbound = record { who = sent.0; datagram = d }
+  Ok got

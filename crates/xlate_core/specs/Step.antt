@@ -1,0 +1,111 @@
+-- One record: the clock, what expires, and the record's own treatment.
+use Rattle.std.specs.Prelude.{ℕ, ◌+◌, nat_le, nat_lt, List, [], ◌∷◌, ◌++◌, Option, Some, None, ok_or, Result, Ok, Err, if◌then◌else◌}
+use Rattle.aftr_base.specs.Attempt.{◌>>=◌, ◌>>◌, require}
+use Rattle.aftr_base.specs.Value.{moment}
+use Rattle.aftr_base.specs.declared.value.Side.{Side}
+use Rattle.aftr_base.specs.declared.value.Side.TheVariants.{Softwire as SoftwireSide, Public as PublicSide}
+use Rattle.aftr_base.specs.declared.value.Subscriber.{Subscriber}
+use Rattle.aftr_base.specs.declared.event.Event.{Event}
+use Rattle.aftr_base.specs.declared.event.EventKind.{EventKind}
+use Rattle.aftr_base.specs.declared.event.EventKind.TheVariants.{Softwire, Public, Tick, Change, Snapped, Foreign, Stray}
+use Rattle.aftr_base.specs.declared.event.LogEvent.{LogEvent}
+use Rattle.aftr_base.specs.declared.event.DropCause.{DropCause}
+use Rattle.aftr_base.specs.declared.event.DropCause.TheVariants.{Settling, Snapped as SnappedCause, BadPacket, NoProtocol, NoMapping}
+use Rattle.aftr_base.specs.declared.event.DropCause.TheVariants.{BadChange}
+use Rattle.wire_l4.specs.Places.{proto_of}
+use Rattle.softwire.specs.Tunnel.{tunnel_packet}
+use Rattle.xlate_core.specs.declared.nat_mapping.Row.{Row}
+use Rattle.xlate_core.specs.declared.step_out.Item.{Item}
+use Rattle.xlate_core.specs.declared.grant.Grant.{Grant}
+use Rattle.xlate_core.specs.nat_mapping.Rows.{find_in}
+use Rattle.xlate_core.specs.State.{State, Step}
+use Rattle.xlate_core.specs.Datagram.{Datagram, datagram_bytes, place_on, key_of, inner_place, translated}
+use Rattle.xlate_core.specs.Outbound.{Outbound, outbound_of}
+use Rattle.xlate_core.specs.Inbound.{inbound_of}
+use Rattle.xlate_core.specs.Grant.{granted, after_grant, opening_events}
+use Rattle.xlate_core.specs.Expiry.{at_moment}
+use Rattle.std.specs.Prelude.{true, false}
+
+abbrev pub quiet : State → Step
+quiet s = record { state = s; items = []; closings = []; openings = []; drop = None }
+
+abbrev pub dropped : State → DropCause → Step
+dropped s cause = record { state = s; items = []; closings = []; openings = []; drop = Some cause }
+
+-- a packet that leaves, at the clock's moment
+abbrev pub item : State → Side → Option Subscriber → List ℕ → Item
+item s side owner bytes = record { side = side; at = moment s.clock; owner = owner; bytes = bytes }
+
+-- ---- outbound: from a subscriber to the public side
+
+-- the place that the datagram's mapping has or gets, or the first reason against it
+abbrev pub mapped : State → Outbound → Result Grant DropCause
+mapped s got = granted s got.who (key_of got.who.softwire got.datagram) got.datagram.header.fields.dst
+
+-- the datagram and its grant, or the first rule that refuses the record
+abbrev pub admitted_outbound : State → List ℕ → Result (Outbound × Grant) DropCause
+admitted_outbound s bytes = do
+  require (nat_lt s.floor s.clock) Settling
+  got ← outbound_of s.config bytes
+  g ← mapped s got
+  Ok (got, g)
+
+abbrev pub sent_out : State → Outbound → Grant → Step
+sent_out s got g = record {
+  state = after_grant got.who (key_of got.who.softwire got.datagram) got.datagram.header.fields.dst g s;
+  items = item s PublicSide (Some got.who.owner) (datagram_bytes (translated true g.place got.datagram)) ∷ [];
+  closings = [];
+  openings = opening_events s g;
+  drop = None;
+}
+
+abbrev pub outbound_step : State → List ℕ → Step
+outbound_step s bytes = elim (admitted_outbound s bytes) [ Err cause ↦ dropped s cause | Ok found ↦ sent_out s found.0 found.1 ]
+
+-- ---- inbound: from the public side to the softwire of the mapping at the destination; no deadline changes
+
+-- the datagram and its mapping, or the first rule that refuses the record; a packet isn't cut for the softwire
+abbrev pub admitted_inbound : State → List ℕ → Result (Datagram × Row) DropCause
+admitted_inbound s bytes = do
+  require (nat_lt s.floor s.clock) Settling
+  d ← inbound_of s.config bytes
+  row ← ok_or (find_in (proto_of d.body) (place_on false d) s.rows) NoMapping
+  require (nat_le (40 + d.header.fields.total) s.config.softwire_mtu) NoProtocol
+  Ok (d, row)
+
+-- the datagram as it goes to the softwire of its mapping, with its TOS as the traffic class (RFC 2473 6.4)
+abbrev pub delivered_bytes : State → Datagram → Row → List ℕ
+delivered_bytes s d row =
+    tunnel_packet s.config.aftr row.key.softwire d.header.fields.tos 4 (datagram_bytes (translated false (inner_place row.key) d))
+
+abbrev pub sent_in : State → Datagram → Row → Step
+sent_in s d row = record (quiet s) { items = item s SoftwireSide None (delivered_bytes s d row) ∷ [] }
+
+abbrev pub inbound_step : State → List ℕ → Step
+inbound_step s bytes = elim (admitted_inbound s bytes) [ Err cause ↦ dropped s cause | Ok found ↦ sent_in s found.0 found.1 ]
+
+-- ---- a record
+
+-- a record that is refused whatever its bytes are, but for the floor
+abbrev pub refused_as_kind : State → DropCause → Step
+refused_as_kind s cause = dropped s (if nat_lt s.floor s.clock then cause else Settling)
+
+abbrev pub treatment : State → EventKind → List ℕ → Step
+treatment s Softwire bytes = outbound_step s bytes
+treatment s Public bytes = inbound_step s bytes
+treatment s Tick bytes = quiet s
+treatment s Change bytes = dropped s BadChange
+treatment s Snapped bytes = refused_as_kind s SnappedCause
+treatment s Foreign bytes = refused_as_kind s NoProtocol
+treatment s Stray bytes = refused_as_kind s BadPacket
+
+-- what closed as the clock was raised stands before what the record itself does
+abbrev pub step : State → Event → Step
+step s e =
+    let before = at_moment e.at.0 s in
+    let t = treatment before.state e.kind e.bytes in
+    record t { closings = before.closings ++ t.closings }
+
+-- in the order of the log
+abbrev pub log_of : Step → List LogEvent
+log_of t = t.closings ++ t.openings

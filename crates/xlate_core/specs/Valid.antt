@@ -1,0 +1,48 @@
+-- What holds of every state that a run comes to.
+use Rattle.std.specs.Prelude.{◌≡◌, ℕ, Bool, true, false, not, ◌&&◌, ◌||◌, nat_le, nat_lt, None, Some, AllPairs, All}
+use Rattle.std.specs.List.{list_any}
+use Rattle.aftr_base.specs.Value.{ip4_eq, key_eq, subscriber_eq, is_within}
+use Rattle.aftr_base.specs.Plan.{is_prefix6}
+use Rattle.aftr_base.specs.Row.{is_open, overlaps}
+use Rattle.aftr_base.specs.declared.row.LeaseRow.{LeaseRow}
+use Rattle.xlate_core.specs.declared.nat_mapping.Row.{Row}
+use Rattle.xlate_core.specs.subscriber_table.Under.{subscriber_of}
+use Rattle.xlate_core.specs.nat_mapping.Rows.{is_at}
+use Rattle.xlate_core.specs.State.{State}
+
+-- a row's place lies in an open lease of its owner
+abbrev pub lies_in_lease : Row → LeaseRow → Bool
+lies_in_lease r l = is_open l && subscriber_eq r.owner l.owner && ip4_eq r.ext.addr l.addr && is_within l.first l.last r.ext.port
+
+abbrev pub is_granted : State → Row → Bool
+is_granted s r = list_any (lies_in_lease r) s.leases
+
+-- the owner is the subscriber of the key's softwire
+abbrev pub is_owned : State → Row → Bool
+is_owned s r = elim (subscriber_of s.config r.key.softwire) [ None ↦ false | Some owner ↦ subscriber_eq r.owner owner ]
+
+-- two rows with one key, or with one place in one protocol
+abbrev pub are_alike : Row → Row → Bool
+are_alike r q = key_eq r.key q.key || is_at q.key.proto q.ext r
+
+-- the lease was over before that moment
+abbrev pub is_over_before : ℕ → LeaseRow → Bool
+is_over_before at l = elim l.until [ None ↦ false | Some until ↦ nat_lt until.0 at ]
+
+-- two leases, the first opened before the second, that share a port at some moment
+abbrev pub clash : LeaseRow → LeaseRow → Bool
+clash l m = overlaps l m.addr m.first m.last && not (is_over_before m.since.0 l)
+
+-- a subscriber's range of ports, that has begun and, where it ended, ended since, by this moment
+abbrev pub is_lease_by : ℕ → LeaseRow → Bool
+is_lease_by now l =
+    is_prefix6 l.owner.0 && nat_le l.first l.last && nat_le l.since.0 now
+    && (elim l.until [ None ↦ true | Some until ↦ nat_le l.since.0 until.0 && nat_le until.0 now ])
+
+-- Each mapping has a place in an open lease of its owner, no two share a key or a place, and no two leases share a port at a moment.
+pub record IsValid (s : State) : Type 0 where
+  pub granted : All (λ r. is_granted s r ≡ true) s.rows
+  pub owned : All (λ r. is_owned s r ≡ true) s.rows
+  pub apart : AllPairs (λ r q. are_alike r q ≡ false) s.rows
+  pub leases : All (λ l. is_lease_by s.clock l ≡ true) s.leases
+  pub disjoint : AllPairs (λ l m. clash l m ≡ false) s.leases

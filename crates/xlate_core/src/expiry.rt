@@ -1,0 +1,60 @@
+//! What goes when the clock is raised: peers and mappings (RFC 4787 4.3), and blocks that nothing uses.
+ghost use Rattle.std.specs.Prelude.{◌≡◌, ◌≤◌, ◌++◌, OnOk};
+ghost use Rattle.aftr_base.specs.Limits.{moment_limit};
+ghost use Rattle.xlate_core.specs.Expiry.{at_moment, closing_limit, closings_of, is_idle, with_idle_ended};
+ghost use Rattle.xlate_core.specs.Stepped.{HasMoved};
+
+use crate::nat_mapping::Table;
+use crate::port_blocks::{Blocks, block_event};
+use crate::translator::Core;
+use aftr_base::{LeaseRow, List, LogEvent, Moment, NoMemory};
+
+/// How many leases end at one moment, at the most.
+const CLOSING_LIMIT: u16 = 512;
+
+impl Core {
+    /// Raises the clock, where the moment is past it: peers and mappings go whose time has come, and blocks close in
+    /// which no mapping has its place, in order of opening and 512 of them at the most. The log is told of those. After
+    /// `NoMemory`, which comes where the log gets no room, nothing is said of the state.
+    pub(crate) fn move_to(&mut self, at: Moment, log: &mut List<LogEvent>) -> Result<(), NoMemory>
+        requires { at.0 ≤ moment_limit }
+        ensures { OnOk result (HasMoved (at_moment at.0 self.old) self.new log.old log.new) }
+    {
+        if at.0 <= self.clock.0 {
+            return Ok(());
+        }
+        self.clock = at;
+        self.table.expire(at);
+        close_idle(&mut self.blocks, &self.table, at, log)
+    }
+}
+
+// Ends at the moment `now` the first idle leases, as many as may end at one moment, and logs them.
+fn close_idle(
+    blocks: &mut Blocks,
+    table: &Table,
+    now: Moment,
+    log: &mut List<LogEvent>,
+) -> Result<(), NoMemory>
+    ensures leases { OnOk result
+        (blocks.new ≡ with_idle_ended closing_limit now.0 table.now blocks.old) }
+    ensures log { OnOk result
+        (log.new ≡ log.old ++ closings_of closing_limit now.0 table.now blocks.old) }
+{
+    let mut left = CLOSING_LIMIT;
+    for lease in blocks.leases.iter_mut() {
+        if left > 0 && is_idle(table, lease) {
+            log.push(block_event(false, now, lease))?;
+            lease.until = Some(now);
+            left -= 1;
+        }
+    }
+    Ok(())
+}
+
+// whether a lease is open and no row has its place in its range
+fn is_idle(table: &Table, lease: &LeaseRow) -> bool
+    ensures { result ≡ is_idle table.now lease.now }
+{
+    lease.until.is_none() && !table.in_use(lease.addr, lease.first, lease.last)
+}

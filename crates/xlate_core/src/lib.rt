@@ -1,0 +1,18 @@
+//! The translator: events to packets.
+#![tactic(auto)]
+
+mod expiry;
+mod grant;
+mod inbound;
+mod nat_mapping;
+mod outbound;
+mod packet;
+mod port_blocks;
+mod step_out;
+mod subscriber_table;
+mod translator;
+
+pub use grant::{Grant, Sender};
+pub use nat_mapping::{Peer, Row};
+pub use step_out::{Item, StepOut};
+pub use translator::Core;

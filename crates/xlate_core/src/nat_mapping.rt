@@ -1,0 +1,232 @@
+//! Mapping rows and their peers (RFC 4787).
+ghost use Rattle.std.specs.Prelude.{◌≡◌, ◌<◌, ◌++◌, [], ◌∷◌, nat_lt, length, map, slice_get, if◌then◌else◌, OnOk, OnErr, position};
+ghost use Rattle.std.specs.List.{list_any};
+ghost use Rattle.aftr_base.specs.Value.{ip4_eq, key_eq, number_of, place, subscriber_eq};
+ghost use Rattle.xlate_core.specs.declared.nat_mapping.Peer.{Peer};
+ghost use Rattle.xlate_core.specs.nat_mapping.Rows.{row_of, row_at, is_of, is_at, least_free, has_peer, with_peer, touched_at, peer_count, in_use, live_peers, expired};
+
+use aftr_base::{Ext, InnerKey, Ip4, List, Moment, NoMemory, Proto, Subscriber};
+use std::alloc::Global;
+use std::marker::Model;
+
+/// A remote address that a mapping was used for, and the moment in milliseconds at which it is forgotten.
+#[derive(Clone, Copy, Debug, PartialEq, Eq)]
+pub struct Peer {
+    pub addr: Ip4,
+    pub deadline: Moment,
+}
+
+/// A mapping from an inner key to an external place.
+#[derive(Debug, Drop)]
+pub struct Row {
+    pub key: InnerKey,
+    pub owner: Subscriber,
+    pub ext: Ext,
+    pub peers: List<Peer>,
+}
+
+/// Where a row stands in its table: how many rows stand before it. It is of use until the table changes.
+#[derive(Clone, Copy, Debug, PartialEq, Eq)]
+pub struct RowId(pub usize);
+
+/// The rows in order of making. Each search is a plain scan of them; indexes come later.
+#[derive(Drop)]
+pub struct Table {
+    rows: Vec<Row>,
+}
+
+impl Model for Table {
+    ghost use Rattle.std.specs.Prelude.{List};
+    ghost use Rattle.xlate_core.specs.declared.nat_mapping.Row.{Row};
+
+    ghost Value = { List Row };
+
+    ghost view = { λ t. t.rows.items };
+}
+
+impl Table {
+    /// A table of no rows, which takes no memory.
+    pub fn new(alloc: Global) -> Self
+        ensures { result ≡ [] }
+    {
+        Table {
+            rows: Vec::new(alloc),
+        }
+    }
+
+    /// Where the row of an inner key stands.
+    pub fn find_out(&self, key: &InnerKey) -> Option<RowId>
+        ensures { result ≡ row_of key.now self.now }
+    {
+        self.out_at(key).map(RowId)
+    }
+
+    /// Where the row of an external place stands.
+    pub fn find_in(&self, proto: Proto, ext: Ext) -> Option<RowId>
+        ensures { result ≡ row_at proto ext self.now }
+    {
+        self.in_at(proto, ext).map(RowId)
+    }
+
+    fn out_at(&self, key: &InnerKey) -> Option<usize>
+        ensures { result ≡ position (is_of key.now) self.now }
+    {
+        self.rows.iter().position(|r| is_same_key(key, &r.key))
+    }
+
+    fn in_at(&self, proto: Proto, ext: Ext) -> Option<usize>
+        ensures { result ≡ position (is_at proto ext) self.now }
+    {
+        self.rows.iter().position(|r| is_at(proto, ext, r))
+    }
+
+    /// The row that stands there.
+    pub fn row(&self, id: RowId) -> &Row
+        requires { id.0 < length self.now }
+        ensures { slice_get self.now id.0 ≡ Some result.now }
+    {
+        &self.rows[id.0]
+    }
+
+    /// The least port from `first` to `last`, both included, that no row of the protocol has at the
+    /// address. Where `first` is greater there is none.
+    pub fn least_free(&self, proto: Proto, addr: Ip4, first: u16, last: u16) -> Option<u16>
+        ensures { result ≡ least_free proto addr first last self.now }
+    {
+        for port in first..=last {
+            if !self.is_taken(proto, addr, port) {
+                return Some(port);
+            }
+        }
+        None
+    }
+
+    // whether a row of the protocol has this place
+    fn is_taken(&self, proto: Proto, addr: Ip4, port: u16) -> bool
+        ensures { result ≡ list_any (is_at proto (place addr port)) self.now }
+    {
+        self.rows
+            .iter()
+            .any(|r| is_at(proto, Ext { addr, port }, r))
+    }
+
+    /// Whether a row has its place at the address from `first` to `last`, both included.
+    pub fn in_use(&self, addr: Ip4, first: u16, last: u16) -> bool
+        ensures { result ≡ in_use addr first last self.now }
+    {
+        self.rows.iter().any(|r| {
+            addr.0 == r.ext.addr.0 && first <= r.ext.port && r.ext.port <= last
+        })
+    }
+
+    /// Whether the peers of a subscriber's rows are fewer than the limit (RFC 6888 3, REQ-5).
+    pub fn has_fewer_peers(&self, owner: Subscriber, limit: u32) -> bool
+        ensures { result ≡ nat_lt (peer_count owner self.now) limit }
+    {
+        let mut count = 0u64;
+        for row in &self.rows {
+            if owner.is(row.owner) {
+                count = count.saturating_add(row.peers.len() as u64);
+            }
+        }
+        count < u64::from(limit)
+    }
+
+    /// Adds a row behind the others. `NoMemory` changes nothing.
+    pub fn insert(&mut self, row: Row) -> Result<(), NoMemory>
+        ensures ok { OnOk result (self.new ≡ self.old ++ row ∷ []) }
+        ensures err { OnErr result (self.new ≡ self.old) }
+    {
+        self.rows.push(row)?;
+        Ok(())
+    }
+
+    /// Puts a peer into the row that stands there: in the place of the one at its address, or behind all. No other row is
+    /// visited. After `NoMemory` nothing is said of the rows, which are only dropped.
+    pub fn touch(&mut self, id: RowId, peer: Peer) -> Result<(), NoMemory>
+        requires { id.0 < length self.old }
+        ensures { OnOk result (self.new ≡ touched_at id.0 peer self.old) }
+    {
+        let row = &mut self.rows[id.0];
+        put_peer(&mut row.peers, peer)
+    }
+
+    /// Lets the peers go whose deadline is not past `now`, and then the rows that have none left
+    /// (RFC 4787 4.3). It takes no memory.
+    pub fn expire(&mut self, now: Moment)
+        ensures { self.new ≡ expired now.0 self.old }
+    {
+        self.rows.retain_mut(|row| is_live_at(now, row));
+    }
+}
+
+/// Whether one of the peers is at this address.
+pub(crate) fn has_peer(remote: Ip4, peers: &[Peer]) -> bool
+    ensures { result ≡ has_peer remote peers.now }
+{
+    peers.iter().any(|p| remote.0 == p.addr.0)
+}
+
+// puts a peer in the place of the one at its address, or behind all
+fn put_peer(peers: &mut List<Peer>, peer: Peer) -> Result<(), NoMemory>
+    ensures { OnOk result (peers.new ≡ with_peer peer peers.old) }
+{
+    if replace_peer(peers, peer) {
+        return Ok(());
+    }
+    peers.push(peer)
+}
+
+// Puts a peer in the place of the one at its address. The answer is whether there is one.
+fn replace_peer(peers: &mut List<Peer>, peer: Peer) -> bool
+    ensures found { result ≡ has_peer peer.addr peers.old }
+    ensures put { peers.new
+        ≡ map (λ (q : Peer). if ip4_eq peer.addr q.addr then peer else q) peers.old }
+{
+    let mut found = false;
+    for at in 0..peers.len() {
+        if peer.addr.0 == peers.as_slice()[at].addr.0 {
+            peers.set(at, peer);
+            found = true;
+        }
+    }
+    found
+}
+
+// Lets the peers of a row go whose deadline is not past `now`. The answer is whether one is left.
+fn is_live_at(now: Moment, row: &mut Row) -> bool
+    ensures row { row.new ≡ live_peers now.0 row.old }
+    ensures left { result ≡ nat_lt 0 (length row.new.peers) }
+{
+    row.peers.retain(|p| now.0 < p.deadline.0);
+    row.peers.len() > 0
+}
+
+// whether a row of the protocol has this place
+fn is_at(proto: Proto, ext: Ext, row: &Row) -> bool
+    ensures { result ≡ is_at proto ext row.now }
+{
+    number(proto) == number(row.key.proto)
+        && ext.addr.0 == row.ext.addr.0
+        && ext.port == row.ext.port
+}
+
+fn is_same_key(a: &InnerKey, b: &InnerKey) -> bool
+    ensures { result ≡ key_eq a.now b.now }
+{
+    a.softwire.0 == b.softwire.0
+        && number(a.proto) == number(b.proto)
+        && a.addr.0 == b.addr.0
+        && a.port == b.port
+}
+
+// the protocol number (RFC 791 3.1, IANA)
+fn number(proto: Proto) -> u8
+    ensures { result ≡ number_of proto }
+{
+    match proto {
+        Proto::Tcp => 6,
+        Proto::Udp => 17,
+        Proto::Icmp => 1,
+    }
+}

@@ -1,0 +1,135 @@
+//! The translator: events to packets, one record after another.
+ghost use Rattle.std.specs.Prelude.{◌≡◌, ◌≤◌, true, IfOk};
+ghost use Rattle.aftr_base.specs.Limits.{moment_limit};
+ghost use Rattle.cfg_text.specs.Accepted.{is_accepted};
+ghost use Rattle.xlate_core.specs.Run.{start as start_of};
+ghost use Rattle.xlate_core.specs.Step.{dropped, item, refused_as_kind, step, treatment};
+ghost use Rattle.xlate_core.specs.Stepped.{HasStepped};
+
+use crate::nat_mapping::Table;
+use crate::port_blocks::Blocks;
+use crate::step_out::{Item, StepOut};
+use aftr_base::{DropCause, Event, EventKind, List, Moment, NoMemory, Side, Subscriber};
+use cfg_text::Config;
+use std::alloc::Global;
+use std::marker::Model;
+
+/// The translator's state: the clock in milliseconds, the mappings and the leases. The floor is the moment up to
+/// which packets settle.
+#[derive(Drop)]
+pub struct Core {
+    pub(crate) config: Config,
+    pub(crate) clock: Moment,
+    pub(crate) floor: Moment,
+    pub(crate) table: Table,
+    pub(crate) blocks: Blocks,
+}
+
+impl Model for Core {
+    ghost use Rattle.std.specs.Prelude.{◌≡◌, ◌≤◌, true};
+    ghost use Rattle.aftr_base.specs.Limits.{moment_limit};
+    ghost use Rattle.cfg_text.specs.Accepted.{is_accepted};
+    ghost use Rattle.xlate_core.specs.State.{State};
+
+    ghost Value = { State };
+
+    ghost view = { λ c. record {
+      config = c.config;
+      clock = c.clock.0;
+      floor = c.floor.0;
+      rows = c.table;
+      leases = c.blocks;
+    } };
+
+    ghost invariant = { λ c. (is_accepted c.config ≡ true) × (c.clock.0 ≤ moment_limit) };
+}
+
+impl Core {
+    /// The state at the start, under an accepted configuration: no mapping and no lease.
+    pub fn start(alloc: Global, config: Config) -> Result<Self, NoMemory>
+        requires { is_accepted config ≡ true }
+        ensures { IfOk result (λ core. core ≡ start_of config) }
+    {
+        Ok(Core {
+            config,
+            clock: Moment(0),
+            floor: Moment(0),
+            table: Table::new(alloc),
+            blocks: Blocks::new(alloc),
+        })
+    }
+
+    /// The greatest moment so far.
+    pub fn clock(&self) -> Moment
+        ensures { result.0 ≡ self.now.clock }
+    {
+        self.clock
+    }
+
+    /// The moment up to which packets settle.
+    pub fn floor(&self) -> Moment
+        ensures { result.0 ≡ self.now.floor }
+    {
+        self.floor
+    }
+
+    /// Takes one record through the translator: its packets and log events are added to `out`, and the answer is why it
+    /// was dropped, if it was. After `NoMemory` nothing is said of the state, which is only dropped.
+    pub fn step(
+        &mut self,
+        alloc: Global,
+        event: &Event,
+        out: &mut StepOut,
+    ) -> Result<Option<DropCause>, NoMemory>
+        requires { event.now.at.0 ≤ moment_limit }
+        ensures { IfOk result
+            (λ cause. HasStepped (step self.old event.now) out.old self.new out.new cause) }
+    {
+        self.move_to(event.at, &mut out.log)?;
+        self.treat(alloc, event, out)
+    }
+
+    // the record's own treatment, at the clock
+    fn treat(
+        &mut self,
+        alloc: Global,
+        event: &Event,
+        out: &mut StepOut,
+    ) -> Result<Option<DropCause>, NoMemory>
+        ensures { IfOk result (λ cause. HasStepped
+            (treatment self.old event.now.kind event.now.bytes) out.old self.new out.new cause) }
+    {
+        match event.kind {
+            EventKind::Softwire => self.step_outbound(alloc, event.bytes.as_slice(), out),
+            EventKind::Public => self.step_inbound(alloc, event.bytes.as_slice(), out),
+            EventKind::Tick => Ok(None),
+            EventKind::Change => Ok(Some(DropCause::BadChange)),
+            EventKind::Snapped => Ok(Some(self.refusal_as(DropCause::Snapped))),
+            EventKind::Foreign => Ok(Some(self.refusal_as(DropCause::NoProtocol))),
+            EventKind::Stray => Ok(Some(self.refusal_as(DropCause::BadPacket))),
+        }
+    }
+
+    // why a record is refused whatever its bytes are
+    fn refusal_as(&self, cause: DropCause) -> DropCause
+        ensures { dropped self.now result ≡ refused_as_kind self.now cause }
+    {
+        if self.floor.0 < self.clock.0 {
+            cause
+        } else {
+            DropCause::Settling
+        }
+    }
+
+    // a packet that leaves, at the clock's moment
+    pub(crate) fn item(&self, side: Side, owner: Option<Subscriber>, bytes: Vec<u8>) -> Item
+        ensures { result ≡ item self.now side owner bytes.items }
+    {
+        Item {
+            side,
+            at: self.clock,
+            owner,
+            bytes: List::from_vec(bytes),
+        }
+    }
+}

@@ -1,0 +1,98 @@
+"""Spells packets, each right in all its fields but for those that a test changes."""
+
+from __future__ import annotations
+
+import struct
+from typing import NamedTuple, Optional
+
+AFTR = 0x2001_0DB8_0000_0000_0000_0000_0000_0001
+AGGREGATE = 0x2001_0DB8_0100_0000_0000_0000_0000_0000
+UDP, IPV4_IN_IPV6 = 17, 4
+DONT_FRAGMENT, MORE_FRAGMENTS, RESERVED = 0x4000, 0x2000, 0x8000
+FROM_SOFTWIRE, FROM_PUBLIC, TICK, CHANGE = 1, 2, 3, 4
+
+
+def frame(kind: int, moment: int, body: bytes) -> bytes:
+    """A record of the input."""
+    return struct.pack(">IBQ", 9 + len(body), kind, moment) + body
+
+
+def quad(text: str) -> int:
+    return int.from_bytes(bytes(map(int, text.split("."))), "big")
+
+
+def softwire_of(subscriber: int, host: int = 2) -> int:
+    """An address of a subscriber, by the number of its prefix."""
+    return AGGREGATE + (subscriber << 72) + host
+
+
+def checksum(data: bytes) -> int:
+    """The Internet checksum (RFC 1071)."""
+    data += bytes(len(data) % 2)
+    total = sum(struct.unpack(f">{len(data) // 2}H", data))
+    while total > 0xFFFF:
+        total = (total & 0xFFFF) + (total >> 16)
+    return 0xFFFF - total
+
+
+class Udp(NamedTuple):
+    """An IPv4 packet with a UDP datagram. What is None is what it should be."""
+
+    source: int = quad("192.0.0.2")
+    source_port: int = 5000
+    destination: int = quad("203.0.113.5")
+    port: int = 53
+    payload: bytes = b"abcd"
+    version: int = 4
+    words: Optional[int] = None  # the header's length in its field
+    tos: int = 0
+    total: Optional[int] = None
+    ident: int = 1
+    fragment: int = 0  # the flags and the fragment offset
+    ttl: int = 64
+    proto: int = UDP
+    sum_wrong_by: int = 0
+    options: bytes = b""
+    udp_length: Optional[int] = None
+    udp_sum: Optional[int] = None
+    kept: Optional[int] = None  # so many of its bytes are left
+
+    def datagram(self) -> bytes:
+        length = 8 + len(self.payload)
+        ports = struct.pack(">HH", self.source_port, self.port)
+        pseudo = struct.pack(">IIHH", self.source, self.destination, UDP, length)
+        right = checksum(pseudo + ports + struct.pack(">HH", length, 0) + self.payload) or 0xFFFF
+        field = length if self.udp_length is None else self.udp_length
+        return ports + struct.pack(">HH", field, right if self.udp_sum is None else self.udp_sum) + self.payload
+
+    def spelled(self) -> bytes:
+        body = self.datagram()
+        words = 5 + len(self.options) // 4 if self.words is None else self.words
+        total = 20 + len(self.options) + len(body) if self.total is None else self.total
+        first = struct.pack(">BBHH", self.version << 4 | words, self.tos, total, self.ident)
+        front = first + struct.pack(">HBB", self.fragment, self.ttl, self.proto)
+        behind = struct.pack(">II", self.source, self.destination) + self.options
+        right = checksum(front + bytes(2) + behind)
+        header = front + struct.pack(">H", (right + self.sum_wrong_by) % 0x1_0000) + behind
+        return (header + body)[: self.kept]
+
+
+class Softwire(NamedTuple):
+    """An IPv6 packet of a subscriber, with an IPv4 packet in it."""
+
+    inner: bytes = Udp().spelled()
+    source: int = softwire_of(0)
+    destination: int = AFTR
+    version: int = 6
+    next_header: int = IPV4_IN_IPV6
+    chain: bytes = b""  # the headers between IPv6 and IPv4
+    payload: Optional[int] = None
+    behind: bytes = b""
+    kept: Optional[int] = None
+
+    def spelled(self) -> bytes:
+        body = self.chain + self.inner
+        length = len(body) if self.payload is None else self.payload
+        head = struct.pack(">IHBB", self.version << 28, length, self.next_header, 64)
+        addresses = self.source.to_bytes(16, "big") + self.destination.to_bytes(16, "big")
+        return (head + addresses + body + self.behind)[: self.kept]

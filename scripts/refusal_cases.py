@@ -1,0 +1,254 @@
+"""Packets that are refused, each with the one cause that its drop is counted under, and packets that just pass.
+
+A packet is refused by the first rule that it breaks. FROM_SUBSCRIBERS and FROM_OUTSIDE list faults in the order of the
+rules, each with its cause; a packet with two of them is dropped for the earlier one. Each packet comes into an input
+beside a subscriber's packet and its reply, both of which get through.
+"""
+
+from __future__ import annotations
+
+from typing import Any, Dict, Iterator, List, NamedTuple, Optional, Sequence
+
+from packets import AFTR, DONT_FRAGMENT, FROM_PUBLIC, FROM_SOFTWIRE, MORE_FRAGMENTS, RESERVED, Softwire, Udp
+from packets import frame, quad, softwire_of
+
+MOMENT = 1_000_000
+FIRST_PACKET = frame(FROM_SOFTWIRE, MOMENT, Softwire().spelled())
+REPLY = Udp(quad("203.0.113.5"), 53, quad("192.0.2.8"), 1024)
+MTU = 1500
+Changes = Dict[str, Any]
+
+
+class Fault(NamedTuple):
+    """What breaks a rule: the fields that differ, of the packet inside and of the one around it."""
+
+    name: str
+    cause: str
+    udp: Changes = {}
+    around: Changes = {}
+    is_early: bool = False  # it comes at moment 0, before all else
+
+
+class Refusal(NamedTuple):
+    """An input, the number of its records, and the cause of the one drop among them, if there is one."""
+
+    name: str
+    records: Sequence[bytes]
+    cause: Optional[str]
+
+    def report(self) -> str:
+        drops = [] if self.cause is None else [f"drop {self.cause} 1"]
+        count = len(self.records)
+        return "".join(f"{line}\n" for line in [f"records {count}", f"sent {count - len(drops)}", "marks 0", *drops])
+
+
+def long_payload(total: int) -> bytes:
+    """The payload of a datagram whose packet has so many bytes in all."""
+    return bytes(total - 28)
+
+
+TOO_LONG: Changes = {"fragment": DONT_FRAGMENT, "payload": long_payload(MTU + 1)}
+
+
+def behind(next_header: int, chain: str) -> Changes:
+    """IPv4 behind further headers, in hexadecimal digits."""
+    return {"next_header": next_header, "chain": bytes.fromhex(chain)}
+
+
+BAD_PACKETS = [
+    Fault("an IPv4 header that is cut", "BadPacket", {"kept": 19}),
+    Fault("another version than 4", "BadPacket", {"version": 6}),
+    Fault("an IPv4 header of four words", "BadPacket", {"words": 4}),
+    Fault("an IPv4 header past the packet", "BadPacket", {"words": 15}),
+    Fault("a total length below the header's", "BadPacket", {"total": 19}),
+    Fault("a total length past the packet", "BadPacket", {"total": 0xFFFF}),
+    Fault("a wrong sum of the IPv4 header", "BadPacket", {"sum_wrong_by": 1}),
+]
+OPTIONS = [Fault("IPv4 options", "Options", {"options": bytes((1, 1, 1, 0))})]
+PIECES = [
+    Fault("a first piece", "NoProtocol", {"fragment": MORE_FRAGMENTS}),
+    Fault("a middle piece", "NoProtocol", {"fragment": MORE_FRAGMENTS | 1}),
+    Fault("a last piece", "NoProtocol", {"fragment": 0x1FFF}),
+]
+UNROUTED = [
+    Fault(f"a source of {text}", "NoRoute", {"source": quad(text)}) for text in ("0.0.0.1", "127.9.9.9", "224.0.0.1")
+]
+TRANSPORTS = [
+    Fault("TCP", "NoProtocol", {"proto": 6}),
+    Fault("ICMP", "NoProtocol", {"proto": 1}),
+    Fault("GRE", "NoProtocol", {"proto": 47}),
+    Fault("no hop", "TtlSpent", {"ttl": 0}),
+    Fault("one hop", "TtlSpent", {"ttl": 1}),
+    Fault("a datagram that is cut in its header", "BadPacket", {"total": 27}),
+    Fault("a datagram's length below its header's", "BadPacket", {"udp_length": 7}),
+    Fault("a datagram's length past its packet", "BadPacket", {"udp_length": 0xFFFF}),
+]
+
+FROM_SUBSCRIBERS = [
+    Fault("no moment yet", "Settling", is_early=True),
+    Fault("an IPv6 header that is cut", "BadPacket", around={"kept": 39}),
+    Fault("another version than 6", "BadPacket", around={"version": 5}),
+    Fault("a payload past the packet", "BadPacket", around={"payload": 0xFFFF}),
+    Fault("another destination", "NotUs", around={"destination": AFTR + 1}),
+    Fault("options past the payload", "BadPacket", around=behind(60, "04ff000000000000")),
+    Fault("options of one byte", "BadPacket", around={"next_header": 0, "payload": 1}),
+    Fault("a Fragment header that is cut", "BadPacket", around={"next_header": 44, "payload": 7}),
+    Fault("no next header", "NotTunnel", around={"next_header": 59}),
+    Fault("IPv6 in IPv6", "NotTunnel", around={"next_header": 41}),
+    Fault("a Routing header behind options", "NotTunnel", around=behind(0, "2b00010400000000")),
+    Fault("a source past the aggregate", "UnknownSubscriber", around={"source": softwire_of(65536)}),
+    Fault("a source before the aggregate", "UnknownSubscriber", around={"source": softwire_of(0, -1)}),
+    Fault("an IPv6 fragment", "NoProtocol", around=behind(44, "0400000100000007")),
+    Fault("an IPv6 fragment behind options", "NoProtocol", around=behind(60, "2c00040104010100 3b00000000000007")),
+    Fault("an IPv6 fragment that is whole", "NoProtocol", around=behind(44, "0400000000000007")),
+    *BAD_PACKETS,
+    *OPTIONS,
+    *PIECES,
+    *UNROUTED,
+    *[
+        Fault(f"a destination of {text}", "NoRoute", {"destination": quad(text)})
+        for text in "0.255.255.255 127.0.0.1 224.0.0.1 255.255.255.255 192.0.0.0 192.0.0.7".split()
+    ],
+    *TRANSPORTS,
+    Fault("a destination in the pool", "NoProtocol", {"destination": quad("192.0.2.8")}),  # where nothing is too big
+    Fault("a packet that may not be cut", "TooBig", TOO_LONG),
+    Fault("a packet that would be cut", "NoProtocol", {"payload": long_payload(MTU + 1)}),
+]
+
+FROM_OUTSIDE = [
+    Fault("no moment yet", "Settling", is_early=True),
+    *BAD_PACKETS,
+    *OPTIONS,
+    Fault("a destination before the pool", "NotUs", {"destination": quad("192.0.2.7")}),
+    Fault("a destination past the pool", "NotUs", {"destination": quad("192.0.2.12")}),
+    *PIECES,
+    *UNROUTED,
+    Fault("a source in the pool", "NoRoute", {"source": quad("192.0.2.11")}),
+    *TRANSPORTS,
+    Fault("a port without a mapping", "NoMapping", {"port": 1025}),
+    Fault("a packet that would be cut", "NoProtocol", {"payload": long_payload(MTU - 40 + 1)}),
+]
+
+
+def input_of(body: bytes, kind: int, is_early: bool) -> List[bytes]:
+    """The records of an input with this packet in it."""
+    reply = frame(FROM_PUBLIC, MOMENT, REPLY.spelled())
+    if is_early:
+        return [frame(kind, 0, body), FIRST_PACKET, reply]
+    return [FIRST_PACKET, frame(kind, MOMENT, body), reply]
+
+
+def from_subscriber(name: str, cause: Optional[str], udp: Changes, around: Changes, is_early: bool = False) -> Refusal:
+    fields = {"inner": Udp(**udp).spelled(), **around}
+    return Refusal(f"out: {name}", input_of(Softwire(**fields).spelled(), FROM_SOFTWIRE, is_early), cause)
+
+
+def from_outside(name: str, cause: Optional[str], udp: Changes, is_early: bool = False) -> Refusal:
+    return Refusal(f"in: {name}", input_of(REPLY._replace(**udp).spelled(), FROM_PUBLIC, is_early), cause)
+
+
+def both(first: Fault, second: Fault) -> Optional[Fault]:
+    """The two faults in one packet, unless they are faults of one field."""
+    if first.udp.keys() & second.udp.keys() or first.around.keys() & second.around.keys():
+        return None
+    fault = Fault(f"{first.name}, {second.name}", first.cause)
+    udp, around = {**first.udp, **second.udp}, {**first.around, **second.around}
+    return fault._replace(udp=udp, around=around, is_early=first.is_early)
+
+
+def with_pairs(faults: Sequence[Fault]) -> Iterator[Fault]:
+    """Each fault alone, and each two of them in the order of their rules."""
+    for at, first in enumerate(faults):
+        yield first
+        pairs = (both(first, second) for second in faults[at + 1 :])
+        yield from (pair for pair in pairs if pair is not None)
+
+
+# Pairs of neighbours that are faults of one field, and packets that a rule leaves to a later one.
+MORE_FROM_SUBSCRIBERS = [
+    from_subscriber("a piece that may not be cut", "NoProtocol", {"fragment": DONT_FRAGMENT | MORE_FRAGMENTS}, {}),
+    from_subscriber("a cut third header", "BadPacket", {"kept": 6}, behind(0, "3c00010400000000 2c00010400000000")),
+    from_subscriber("options behind a fragment", "NoProtocol", {"ttl": 1}, behind(44, "3c00000100000007")),
+    from_subscriber("a long packet to the pool", "NoProtocol", {**TOO_LONG, "destination": quad("192.0.2.8")}, {}),
+    from_subscriber("a bad datagram to the pool", "BadPacket", {"destination": quad("192.0.2.8"), "udp_length": 7}, {}),
+    from_subscriber("neither a version nor words", "BadPacket", {"version": 0, "words": 0}, {}),
+    from_subscriber("no IPv4 header at all", "BadPacket", {"kept": 0}, {}),
+]
+MORE_FROM_OUTSIDE = [
+    from_outside("no byte", "BadPacket", {"kept": 0}),
+    from_outside("the subscribers' side", "BadPacket", {"version": 6, "words": 0}),
+    from_outside("a long packet to no mapping", "NoMapping", {"port": 1023, "payload": long_payload(MTU)}),
+    from_outside("a source in the pool, spent", "NoRoute", {"source": quad("192.0.2.8"), "ttl": 0}),
+]
+
+# Packets at the edge of a rule, which pass.
+ROUTED = (
+    "1.0.0.0 126.255.255.255 128.0.0.0 223.255.255.255 191.255.255.255 192.0.0.8 192.0.2.7 192.0.2.12"
+).split()
+PASSING = [
+    from_subscriber("options", None, {}, behind(60, "0400040104010100")),
+    from_subscriber("long options", None, {}, behind(0, "3c00010400000000 0401010c" + 12 * "00")),
+    from_subscriber("bytes behind the packets", None, {}, {"behind": bytes(9)}),
+    from_subscriber("bytes behind the IPv4 packet", None, {}, {"inner": Udp().spelled() + bytes(5)}),
+    from_subscriber("the last subscriber", None, {}, {"source": softwire_of(65536, -1)}),
+    from_subscriber("a reserved bit, and no cutting", None, {"fragment": RESERVED | DONT_FRAGMENT}, {}),
+    from_subscriber("two hops", None, {"ttl": 2}, {}),
+    from_subscriber("a datagram shorter than its packet", None, {"udp_length": 8}, {}),
+    from_subscriber("a wrong sum of the datagram", None, {"udp_sum": 0x1234}, {}),
+    from_subscriber("as long as may be", None, {"fragment": DONT_FRAGMENT, "payload": long_payload(MTU)}, {}),
+    from_subscriber("the tunnel's own source", None, {"source": quad("192.0.0.7")}, {}),
+    *[from_subscriber(f"a destination of {text}", None, {"destination": quad(text)}, {}) for text in ROUTED],
+    from_outside("as long as may be", None, {"payload": long_payload(MTU - 40)}),
+    from_outside("another remote", None, {"source": quad("198.51.100.1"), "source_port": 99}),
+    from_outside("bytes of type of service", None, {"tos": 0xB8, "fragment": RESERVED | DONT_FRAGMENT}),
+]
+
+
+def granted(subscribers: int, ports: int = 1) -> List[bytes]:
+    """The packets of so many subscribers, each from so many ports."""
+    return [
+        frame(FROM_SOFTWIRE, MOMENT, Softwire(Udp(source_port=port).spelled(), source=softwire_of(number)).spelled())
+        for number in range(subscribers)
+        for port in range(ports)
+    ]
+
+
+def sent_to(remotes: int) -> List[bytes]:
+    """The packets of one subscriber from one port to so many remotes."""
+    return [
+        frame(FROM_SOFTWIRE, MOMENT, Softwire(Udp(destination=quad("203.0.0.0") + number).spelled()).spelled())
+        for number in range(remotes)
+    ]
+
+
+def refused_grants() -> Iterator[Refusal]:
+    """What finds no place. A block has 512 ports, the pool 504 blocks, and a subscriber 16,384 peers."""
+
+    def last(name: str, before: List[bytes], cause: str, udp: Changes, subscriber: int = 0) -> Refusal:
+        body = Softwire(Udp(**udp).spelled(), source=softwire_of(subscriber)).spelled()
+        return Refusal(f"out: {name}", [*before, frame(FROM_SOFTWIRE, MOMENT, body)], cause)
+
+    full_block, full_pool, all_peers = granted(1, 512), granted(504), sent_to(16_384)
+    other_port: Changes = {"source_port": 512}
+    to_pool: Changes = {"destination": quad("192.0.2.8")}
+    yield last("a full block", full_block, "QuotaBlocks", other_port)
+    yield last("a full block, to the pool", full_block, "NoProtocol", {**other_port, **to_pool})
+    yield last("a full block, may not be cut", full_block, "TooBig", {**other_port, **TOO_LONG})
+    yield last("a full block, would be cut", full_block, "NoProtocol", {**other_port, **TOO_LONG, "fragment": 0})
+    yield last("a full pool", full_pool, "PoolEmpty", {}, 504)
+    yield last("a full pool, to the pool", full_pool, "NoProtocol", to_pool, 504)
+    yield last("a full block and a full pool", full_pool + full_block[1:], "QuotaBlocks", other_port)
+    yield last("all peers", all_peers, "QuotaPeers", {"destination": quad("203.0.64.0")})
+    yield last("all peers, may not be cut", all_peers, "TooBig", TOO_LONG)
+
+
+def refusals() -> Iterator[Refusal]:
+    """All cases."""
+    for fault in with_pairs(FROM_SUBSCRIBERS):
+        yield from_subscriber(fault.name, fault.cause, fault.udp, fault.around, fault.is_early)
+    for fault in with_pairs(FROM_OUTSIDE):
+        yield from_outside(fault.name, fault.cause, fault.udp, fault.is_early)
+    yield from MORE_FROM_SUBSCRIBERS
+    yield from MORE_FROM_OUTSIDE
+    yield from PASSING
+    yield from refused_grants()
