@@ -216,12 +216,19 @@ def from_public(data: bytes) -> bytes:
     return packet
 
 
+def covered(packet: bytes) -> bytes:
+    """What the checksum of a packet's UDP datagram covers, with zeros behind an odd end (RFC 768)."""
+    datagram = packet[IPV4_HEADER : IPV4_HEADER + word(packet, 24)]
+    pseudo = packet[12:20] + bytes([0, UDP]) + packet[24:26]
+    return pseudo + datagram + bytes(len(datagram) % 2)
+
+
 def moved(packet: bytes, is_source: bool, place: Place) -> bytes:
     """The packet with this place as source or destination and one hop less.
 
-    Its header's checksum is computed anew. That of the datagram may have been wrong before, and then is as wrong
-    afterwards: it changes by what is added and taken away, modulo 65535 (RFC 1624). None stays none, and a sum of 0 is
-    sent as its other form (RFC 768).
+    Its header's checksum is computed anew, and so is that of the datagram where it was right. One that was wrong is as
+    wrong afterwards: it changes by what is added and taken away, modulo 65535 (RFC 1624). None stays none, and a sum of
+    0 is sent as its other form (RFC 768).
     """
     address_at, port_at = (12, 20) if is_source else (16, 22)
     out = bytearray(packet)
@@ -230,11 +237,17 @@ def moved(packet: bytes, is_source: bool, place: Place) -> bytes:
     out[port_at : port_at + 2] = place.port.to_bytes(2, "big")
     out[10:12] = bytes(2)
     out[10:12] = checksum(bytes(out[:IPV4_HEADER])).to_bytes(2, "big")
-    if word(packet, 26) != 0:
+    if word(packet, 26) == 0:
+        return bytes(out)
+    if checksum(covered(packet)) == 0:
+        out[26:28] = bytes(2)
+        found = checksum(covered(bytes(out)))
+    else:
         taken, added = (
             sum_of(data[address_at : address_at + 4]) + word(data, port_at) for data in (packet, bytes(out))
         )
-        out[26:28] = ((word(packet, 26) + taken - added) % 0xFFFF or 0xFFFF).to_bytes(2, "big")
+        found = (word(packet, 26) + taken - added) % 0xFFFF
+    out[26:28] = (found or 0xFFFF).to_bytes(2, "big")
     return bytes(out)
 
 
