@@ -50,13 +50,13 @@ pub enum LogEvent {
         last: u16,
         at: Moment,
     },
-    /// The log has the names up to a moment. No run logs one.
+    /// The log has the names up to a moment.
     Horizon {
         at: Moment,
         /// That moment, included.
         reach: Moment,
     },
-    /// A plan opens; none closes the open one. No run logs one.
+    /// A plan opens; none closes the open one. No run opens one yet.
     Plan {
         at: Moment,
         spec: Option<PlanSpec>,

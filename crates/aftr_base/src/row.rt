@@ -1,9 +1,11 @@
 //! Rows of the lease table and of the plan table.
-ghost use Rattle.std.specs.Prelude.{◌≡◌};
+ghost use Rattle.std.specs.Prelude.{◌≡◌, IfOk};
 ghost use Rattle.aftr_base.specs.Row.{overlaps};
 
 use crate::list::List;
+use crate::memory::NoMemory;
 use crate::value::{Ip4, Moment, Prefix4, Prefix6, Subscriber};
+use std::alloc::Global;
 
 /// A block of ports at a public address, and since and until when it is its owner's.
 #[derive(Clone, Copy, Debug, PartialEq, Eq)]
@@ -30,7 +32,7 @@ impl LeaseRow {
     }
 }
 
-/// The values that a deterministic plan is computed from (RFC 7422 section 2). No run has a plan.
+/// The values that a deterministic plan is computed from (RFC 7422 section 2).
 #[derive(Debug, Drop)]
 pub struct PlanSpec {
     /// The length of each subscriber's prefix in bits, at most 128.
@@ -43,6 +45,25 @@ pub struct PlanSpec {
     pub aggregates: List<Prefix6>,
     /// The public addresses.
     pub pool: List<Prefix4>,
+}
+
+impl PlanSpec {
+    /// The same values again.
+    pub fn copied(&self, alloc: Global) -> Result<PlanSpec, NoMemory>
+        ensures { IfOk result (λ spec. spec ≡ self.now) }
+    {
+        let mut aggregates = List::new(alloc);
+        aggregates.extend_from_slice(self.aggregates.as_slice())?;
+        let mut pool = List::new(alloc);
+        pool.extend_from_slice(self.pool.as_slice())?;
+        Ok(PlanSpec {
+            subscriber_len: self.subscriber_len,
+            block_size: self.block_size,
+            ratio: self.ratio,
+            aggregates,
+            pool,
+        })
+    }
 }
 
 /// A plan, and since and until when it is in use.
