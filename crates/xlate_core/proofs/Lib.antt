@@ -3,6 +3,7 @@ pub mod Clock
 pub mod Closings
 pub mod Datagrams
 pub mod Holders
+pub mod IdleLeases
 pub mod LeasesOver
 pub mod LogNumbers
 pub mod Openings
@@ -15,6 +16,7 @@ pub mod Runs
 pub mod Sending
 pub mod SoleItems
 pub mod Treatments
+pub mod Usages
 pub mod ValidExpiry
 pub mod ValidForwards
 pub mod ValidGrants

@@ -116,7 +116,7 @@ kept_by : (p q : Peer) (b rest : Bool) (qs qs' : List Peer) → (b || rest) ≡ 
 kept_by p q true rest qs qs' none later = cc
 kept_by p q false rest qs qs' none later = ap (λ (l : List Peer). q ∷ l) (later none)
 
-none_replaced : (p : Peer) (qs : List Peer) → list_any (is_peer p.addr) qs ≡ false → map (replaced p) qs ≡ qs
+pub none_replaced : (p : Peer) (qs : List Peer) → list_any (is_peer p.addr) qs ≡ false → map (replaced p) qs ≡ qs
 none_replaced p [] none = refl
 none_replaced p (q ∷ qs) none = kept_by p q (is_peer p.addr q) (list_any (is_peer p.addr) qs) (map (replaced p) qs) qs none
     (λ h. none_replaced p qs h)
@@ -165,3 +165,10 @@ touched_where p rows rows' at there peers same lt here put =
     ap (λ (r : Row). set rows at (record r { peers = peers })) here
     ∙ touched_set p rows at there peers inside (put ∙ ap (λ (r : Row). with_peer p r.peers) here)
     ∙ ap (touched_at at p) same
+
+-- and where they stayed, so did the rows
+pub untouched : (rows rows' : List Row) (at : ℕ) (there : Row) (peers : List Peer) → rows ≡ rows' → there ≡ get_or rows at there
+    → peers ≡ there.peers → set rows at (record there { peers = peers }) ≡ rows'
+untouched rows rows' at there peers same here stay =
+    ap (λ (ps : List Peer). set rows at (record there { peers = ps })) stay
+    ∙ ap (λ (r : Row). set rows at r) here ∙ set-get_or rows at there ∙ same

@@ -1,7 +1,7 @@
 -- The row that a search found, by its place in the table.
 use Rattle.std.proofs.Common.{◌≡◌, ltb, ◌++◌, ℕ, suc, ◌+◌, ◌<◌, ◌≤◌, Bool, true, false, not, cond, List, [], ◌∷◌, length, Option, Some}
 use Rattle.std.proofs.Common.{None, find, option_map, refl, sym, ap, ◌∙◌, subst, inl, inr, arith}
-use Rattle.std.specs.Prelude.{◌||◌, Result, Ok, Err, if◌then◌else◌, slice_get, is_some}
+use Rattle.std.specs.Prelude.{Result, if◌then◌else◌, slice_get, is_some}
 use Rattle.std.specs.List.{position, position_or_len}
 use Rattle.std.proofs.lemmas.List.Folds.{find_at}
 use Rattle.std.proofs.lemmas.Option.{slice_get_cases}
@@ -10,22 +10,21 @@ use Rattle.aftr_base.specs.declared.value.Ext.{Ext}
 use Rattle.aftr_base.specs.declared.value.InnerKey.{InnerKey}
 use Rattle.aftr_base.specs.declared.value.Proto.{Proto}
 use Rattle.aftr_base.specs.declared.event.DropCause.{DropCause}
-use Rattle.aftr_base.specs.declared.event.DropCause.TheVariants.{QuotaPeers}
 use Rattle.xlate_core.specs.declared.nat_mapping.Row.{Row}
 use Rattle.xlate_core.specs.declared.nat_mapping.RowId.{RowId}
 use Rattle.xlate_core.specs.declared.nat_mapping.Peer.{Peer}
 use Rattle.xlate_core.specs.declared.grant.Grant.{Grant}
 use Rattle.xlate_core.specs.declared.grant.Sender.{Sender}
-use Rattle.xlate_core.specs.nat_mapping.Rows.{row_id, row_of, row_at, is_of, is_at, find_out, find_in, has_peer, with_peer, touched}
+use Rattle.xlate_core.specs.nat_mapping.Rows.{row_id, row_of, row_at, is_of, is_at, find_out, find_in, with_peer, touched}
 use Rattle.xlate_core.specs.nat_mapping.Rows.{touched_at}
-use Rattle.xlate_core.specs.Grant.{at_once, kept_place, place_for, granted, may_peer, peer_of, row_for, rows_after, after_row}
+use Rattle.xlate_core.specs.Grant.{kept_place, place_for, granted, peer_of, row_for, rows_after, after_row}
 use Rattle.xlate_core.specs.State.{State}
 use Rattle.std.proofs.lemmas.Bool.{ltb-true, ltb-false}
 use Rattle.aftr_base.proofs.Founds.{some_inj, mapped_some}
 
 -- ---- a search that answers the item, and one that answers where it stands
 
-in_list : {X : Type 0} (xs : List X) (b : Bool) (n i : ℕ) → cond b (Some n) None ≡ Some i → n ≡ i
+pub in_list : {X : Type 0} (xs : List X) (b : Bool) (n i : ℕ) → cond b (Some n) None ≡ Some i → n ≡ i
 in_list xs true n i h = some_inj n i h
 in_list xs false n i h = cc
 
@@ -83,12 +82,12 @@ by_row s who key remote o = elim o [
   | None ↦ place_for s who key.proto
 ]
 
-pub granted_there : (s : State) (who : Sender) (key : InnerKey) (remote : Ip4) (rows : List Row) (id : RowId) (r : Row)
-    → rows ≡ s.rows → Some id ≡ row_of key s.rows → slice_get rows id.0 ≡ Some r
+pub granted_there : (s : State) (who : Sender) (key : InnerKey) (remote : Ip4) (id : RowId) (r : Row)
+    → Some id ≡ row_of key s.rows → slice_get s.rows id.0 ≡ Some r
     → kept_place s who remote r ≡ granted s who key remote
-granted_there s who key remote rows id r same found here =
+granted_there s who key remote id r found here =
     let row = item_there (is_of key) s.rows id.0 (place_of (position (is_of key) s.rows) id found) in
-    sym (ap (by_row s who key remote) (row ∙ ap (λ (l : List Row). slice_get l id.0) (sym same) ∙ here))
+    sym (ap (by_row s who key remote) (row ∙ here))
 
 pub granted_anew : (s : State) (who : Sender) (key : InnerKey) (remote : Ip4) → None ≡ row_of key s.rows
     → place_for s who key.proto ≡ granted s who key remote

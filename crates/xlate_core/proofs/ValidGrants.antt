@@ -91,9 +91,13 @@ case_found : (s : State) (who : Sender) (key : InnerKey) (remote : Ip4) (g : Gra
 case_found s who key remote g None e h = case_place s who key g (place_in_lease s who key.proto) e refl h
 case_found s who key remote g (Some r) e h = case_kept s who key g r (has_peer remote r.peers || may_peer s who) e h
 
+pub grant_cases : (s : State) (who : Sender) (key : InnerKey) (remote : Ip4) (g : Grant) → granted s who key remote ≡ given g
+    → GrantCase s who key g
+grant_cases s who key remote g h = case_found s who key remote g (find_out key s.rows) refl h
+
 pub grant_case : {s : State} {who : Sender} {key : InnerKey} {remote : Ip4} {g : Grant} → IsGrant s who key remote g → GrantCase s who key g
 grant_case {s = s} {who = who} {key = key} {remote = remote} {g = g} h =
-    case_found s who key remote g (find_out key s.rows) refl h.grants
+    grant_cases s who key remote g h.grants
 
 -- ---- a place in an open lease
 

@@ -1,5 +1,6 @@
 -- What goes when the clock is raised.
 use Rattle.std.specs.Prelude.{ℕ, zero, suc, Bool, false, not, ◌&&◌, nat_le, List, [], ◌∷◌, map, filter, take, if◌then◌else◌}
+use Rattle.std.specs.List.{list_any}
 use Rattle.aftr_base.specs.Row.{is_open, ended}
 use Rattle.aftr_base.specs.declared.row.LeaseRow.{LeaseRow}
 use Rattle.aftr_base.specs.declared.event.LogEvent.{LogEvent}
@@ -10,6 +11,9 @@ use Rattle.xlate_core.specs.State.{State, block_event}
 -- an open lease in whose range no row has its place
 abbrev pub is_idle : List Row → LeaseRow → Bool
 is_idle rows l = is_open l && not (in_use l.addr l.first l.last rows)
+
+abbrev pub has_idle : List Row → List LeaseRow → Bool
+has_idle rows leases = list_any (is_idle rows) leases
 
 -- the leases after the first n idle ones ended
 abbrev pub with_idle_ended : ℕ → ℕ → List Row → List LeaseRow → List LeaseRow

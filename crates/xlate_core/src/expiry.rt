@@ -1,7 +1,7 @@
 //! What goes when the clock is raised: peers and mappings (RFC 4787 4.3), and blocks that nothing uses.
-ghost use Rattle.std.specs.Prelude.{◌≡◌, ◌≤◌, ◌++◌, OnOk};
+ghost use Rattle.std.specs.Prelude.{◌≡◌, ◌≤◌, ◌++◌, ◌&&◌, false, IfOk, OnOk};
 ghost use Rattle.aftr_base.specs.Limits.{moment_limit};
-ghost use Rattle.xlate_core.specs.Expiry.{at_moment, closing_limit, closings_of, is_idle, with_idle_ended};
+ghost use Rattle.xlate_core.specs.Expiry.{at_moment, closing_limit, closings_of, has_idle, is_idle, with_idle_ended};
 ghost use Rattle.xlate_core.specs.Stepped.{HasMoved};
 
 use crate::nat_mapping::Table;
@@ -15,7 +15,8 @@ const CLOSING_LIMIT: u16 = 512;
 impl Core {
     /// Raises the clock, where the moment is past it: peers and mappings go whose time has come, and blocks close in
     /// which no mapping has its place, in order of opening and 512 of them at the most. The log is told of those. After
-    /// `NoMemory`, which comes where the log gets no room, nothing is said of the state.
+    /// `NoMemory`, which comes where the log gets no room, nothing is said of the state. Leases are looked through only
+    /// where a row went, or where one may have been idle before.
     pub(crate) fn move_to(&mut self, at: Moment, log: &mut List<LogEvent>) -> Result<(), NoMemory>
         requires { at.0 ≤ moment_limit }
         ensures { OnOk result (HasMoved (at_moment at.0 self.old) self.new log.old log.new) }
@@ -24,22 +25,29 @@ impl Core {
             return Ok(());
         }
         self.clock = at;
-        self.table.expire(at);
-        close_idle(&mut self.blocks, &self.table, at, log)
+        let went = self.table.expire(at);
+        if self.all_used && !went {
+            return Ok(());
+        }
+        self.all_used = false;
+        self.all_used = close_idle(&mut self.blocks, &self.table, at, log)?;
+        Ok(())
     }
 }
 
-// Ends at the moment `now` the first idle leases, as many as may end at one moment, and logs them.
+// Ends at the moment `now` the first idle leases, as many as may end at one moment, and logs them. The answer is whether
+// it is known that none is left.
 fn close_idle(
     blocks: &mut Blocks,
     table: &Table,
     now: Moment,
     log: &mut List<LogEvent>,
-) -> Result<(), NoMemory>
+) -> Result<bool, NoMemory>
     ensures leases { OnOk result
         (blocks.new ≡ with_idle_ended closing_limit now.0 table.now blocks.old) }
     ensures log { OnOk result
         (log.new ≡ log.old ++ closings_of closing_limit now.0 table.now blocks.old) }
+    ensures none { IfOk result (λ none. (none && has_idle table.now blocks.new) ≡ false) }
 {
     let mut left = CLOSING_LIMIT;
     for lease in blocks.leases.iter_mut() {
@@ -49,7 +57,7 @@ fn close_idle(
             left -= 1;
         }
     }
-    Ok(())
+    Ok(left > 0)
 }
 
 // whether a lease is open and no row has its place in its range

@@ -1,10 +1,11 @@
 //! Which place a mapping gets, and what is kept of it (RFC 4787 4, RFC 6888 3).
-ghost use Rattle.std.specs.Prelude.{◌≡◌, ◌++◌, ◌||◌, [], ◌∷◌, Ok, Err, OnOk, option_to_list, if◌then◌else◌};
+ghost use Rattle.std.specs.Prelude.{◌≡◌, ◌<◌, ◌++◌, ◌||◌, [], ◌∷◌, Ok, Err, Some, OnOk, OnErr, length, take, slice_get, option_to_list, if◌then◌else◌};
 ghost use Rattle.aftr_base.specs.declared.event.DropCause.TheVariants.{QuotaPeers};
-ghost use Rattle.xlate_core.specs.nat_mapping.Rows.{row_of, has_peer};
+ghost use Rattle.xlate_core.specs.declared.nat_mapping.Row.{Row};
+ghost use Rattle.xlate_core.specs.nat_mapping.Rows.{row_of, has_peer, search_of, usage_of};
 ghost use Rattle.xlate_core.specs.Grant.{at_once, place_in, place_in_lease, new_block, kept_place, place_for, granted, may_peer, peer_of, row_for, after_row, after_grant, opening_events};
 
-use crate::nat_mapping::{Peer, Row, RowId, Table, has_peer};
+use crate::nat_mapping::{Peer, Row, RowId, Search, Table, Usage, has_peer};
 use crate::port_blocks::{Blocks, block_event, is_open_of, opened};
 use crate::translator::Core;
 use aftr_base::{
@@ -36,42 +37,49 @@ pub(crate) struct Flow {
 }
 
 impl Core {
-    /// Where the row of a flow's key stands, if it has one.
-    pub(crate) fn row_of(&self, flow: &Flow) -> Option<RowId>
-        ensures { result ≡ row_of flow.now.key self.now.rows }
+    /// Where the row of a flow's key stands, and what its subscriber has before that.
+    pub(crate) fn search(&self, flow: &Flow) -> Search
+        ensures { result ≡ search_of flow.now.key flow.now.who.owner self.now.rows }
     {
-        self.table.find_out(&flow.key)
+        self.table.search(&flow.key, flow.who.owner)
     }
 
-    /// The place that the mapping of a flow has, or gets now; the row is that of its key. The cause is `QuotaPeers` where
+    /// The place that the mapping of a flow has, or gets now; the search is that for its key. The cause is `QuotaPeers` where
     /// the mapping would have a peer more and its subscriber has as many as it may, `QuotaBlocks` where no port is left in
     /// the subscriber's open leases, and `PoolEmpty` where it has no open lease and no block of the pool is free.
-    pub(crate) fn granted(&self, flow: &Flow, row: Option<RowId>) -> Result<Grant, DropCause>
-        requires { row ≡ row_of flow.now.key self.now.rows }
+    pub(crate) fn granted(&self, flow: &Flow, found: &Search) -> Result<Grant, DropCause>
+        requires { found.now ≡ search_of flow.now.key flow.now.who.owner self.now.rows }
         ensures { result ≡ granted self.now flow.now.who flow.now.key flow.now.remote }
     {
-        match row {
-            Some(id) => self.kept_place(flow, self.table.row(id)),
+        match found.row {
+            Some(id) => self.kept_place(flow, id, found.before),
             None => self.new_place(flow),
         }
     }
 
     // the place of a row, unless the remote address would be a peer more than its subscriber may have
-    fn kept_place(&self, flow: &Flow, row: &Row) -> Result<Grant, DropCause>
-        ensures { result ≡ kept_place self.now flow.now.who flow.now.remote row.now }
+    fn kept_place(&self, flow: &Flow, id: RowId, before: Usage) -> Result<Grant, DropCause>
+        requires there { id.0 < length self.now.rows }
+        requires before { before ≡ usage_of flow.now.who.owner (take id.0 self.now.rows) }
+        ensures { (r : Row) → slice_get self.now.rows id.0 ≡ Some r
+            → result ≡ kept_place self.now flow.now.who flow.now.remote r }
     {
-        if has_peer(flow.remote, row.peers.as_slice()) || self.may_peer(&flow.who) {
+        let row = self.table.row(id);
+        if has_peer(flow.remote, row.peers.as_slice()) || self.may_peer(&flow.who, id, before) {
             Ok(at_once(row.ext))
         } else {
             Err(DropCause::QuotaPeers)
         }
     }
 
-    // whether a subscriber may have one more peer
-    fn may_peer(&self, who: &Sender) -> bool
+    // whether a subscriber may have one more peer, where it has this much before a row
+    fn may_peer(&self, who: &Sender, id: RowId, before: Usage) -> bool
+        requires there { id.0 < length self.now.rows }
+        requires before { before ≡ usage_of who.now.owner (take id.0 self.now.rows) }
         ensures { result ≡ may_peer self.now who.now }
     {
-        self.table.has_fewer_peers(who.owner, self.config.max_peers)
+        let usage = self.table.usage_from(who.owner, id, before);
+        usage.peers < u64::from(self.config.max_peers)
     }
 
     // the place of a key that has no row: in the sender's open leases, or else in a new one
@@ -127,7 +135,8 @@ impl Core {
         row: Option<RowId>,
         grant: &Grant,
     ) -> Result<(), NoMemory>
-        requires { row ≡ row_of flow.now.key self.old.rows }
+        requires row { row ≡ row_of flow.now.key self.old.rows }
+        requires grant { granted self.old flow.now.who flow.now.key flow.now.remote ≡ Ok grant.now }
         ensures { OnOk result
             (self.new ≡ after_grant flow.now.who flow.now.key flow.now.remote grant.now self.old) }
     {
@@ -203,8 +212,9 @@ fn add_row(
     peer: Peer,
     place: Ext,
 ) -> Result<(), NoMemory>
-    ensures { OnOk result
+    ensures ok { OnOk result
         (table.new ≡ table.old ++ row_for flow.now.who flow.now.key peer place ∷ []) }
+    ensures err { OnErr result (table.new ≡ table.old) }
 {
     let mut peers = List::new(alloc);
     peers.push(peer)?;
@@ -217,7 +227,8 @@ fn add_row(
 }
 
 fn keep_lease(blocks: &mut Blocks, lease: Option<LeaseRow>) -> Result<(), NoMemory>
-    ensures { OnOk result (blocks.new ≡ blocks.old ++ option_to_list lease) }
+    ensures ok { OnOk result (blocks.new ≡ blocks.old ++ option_to_list lease) }
+    ensures err { OnErr result (blocks.new ≡ blocks.old) }
 {
     match lease {
         None => Ok(()),

@@ -1,9 +1,9 @@
 //! Mapping rows and their peers (RFC 4787).
-ghost use Rattle.std.specs.Prelude.{◌≡◌, ◌<◌, ◌++◌, [], ◌∷◌, nat_lt, length, map, slice_get, if◌then◌else◌, OnOk, OnErr, position};
+ghost use Rattle.std.specs.Prelude.{◌≡◌, ◌<◌, ◌≤◌, ◌+◌, ◌-◌, ◌^◌, ◌++◌, [], ◌∷◌, nat_lt, length, map, min, take, slice_get, if◌then◌else◌, OnOk, OnErr, position};
 ghost use Rattle.std.specs.List.{list_any};
 ghost use Rattle.aftr_base.specs.Value.{ip4_eq, key_eq, number_of, place, subscriber_eq};
 ghost use Rattle.xlate_core.specs.declared.nat_mapping.Peer.{Peer};
-ghost use Rattle.xlate_core.specs.nat_mapping.Rows.{row_of, row_at, is_of, is_at, least_free, has_peer, with_peer, touched_at, peer_count, in_use, live_peers, expired};
+ghost use Rattle.xlate_core.specs.nat_mapping.Rows.{row_at, is_at, least_free, has_peer, with_peer, touched_at, in_use, live_peers, expired, search_of, usage_of};
 
 use aftr_base::{Ext, InnerKey, Ip4, List, Moment, NoMemory, Proto, Subscriber};
 use std::alloc::Global;
@@ -28,6 +28,22 @@ pub struct Row {
 /// Where a row stands in its table: how many rows stand before it. It is of use until the table changes.
 #[derive(Clone, Copy, Debug, PartialEq, Eq)]
 pub struct RowId(pub usize);
+
+/// How many rows and peers a subscriber has (RFC 6888 3). A count stands still at the greatest number of its type.
+#[derive(Clone, Copy, Debug, PartialEq, Eq)]
+pub struct Usage {
+    pub rows: u64,
+    pub peers: u64,
+}
+
+/// What a search for the row of an inner key came to.
+#[derive(Clone, Copy, Debug, PartialEq, Eq)]
+pub struct Search {
+    /// Where the row stands, if the key has one.
+    pub row: Option<RowId>,
+    /// What the subscriber has in the rows before that one, or in all rows where the key has none.
+    pub before: Usage,
+}
 
 /// The rows in order of making. Each search is a plain scan of them; indexes come later.
 #[derive(Drop)]
@@ -54,11 +70,35 @@ impl Table {
         }
     }
 
-    /// Where the row of an inner key stands.
-    pub fn find_out(&self, key: &InnerKey) -> Option<RowId>
-        ensures { result ≡ row_of key.now self.now }
+    /// Looks for the row of an inner key, and counts on the way what a subscriber has. No row behind the key's is visited.
+    pub fn search(&self, key: &InnerKey, owner: Subscriber) -> Search
+        ensures { result ≡ search_of key.now owner self.now }
     {
-        self.out_at(key).map(RowId)
+        let mut before = Usage { rows: 0, peers: 0 };
+        for (at, row) in self.rows.iter().enumerate() {
+            if is_same_key(key, &row.key) {
+                return Search {
+                    row: Some(RowId(at)),
+                    before,
+                };
+            }
+            before = usage_with(before, owner, row);
+        }
+        Search { row: None, before }
+    }
+
+    /// What a subscriber has in all, where it has this much in the rows before that one. Only rows from that one on are
+    /// visited.
+    pub fn usage_from(&self, owner: Subscriber, from: RowId, before: Usage) -> Usage
+        requires within { from.0 ≤ length self.now }
+        requires before { before ≡ usage_of owner (take from.0 self.now) }
+        ensures { result ≡ usage_of owner self.now }
+    {
+        let mut usage = before;
+        for row in &self.rows[from.0..] {
+            usage = usage_with(usage, owner, row);
+        }
+        usage
     }
 
     /// Where the row of an external place stands.
@@ -66,12 +106,6 @@ impl Table {
         ensures { result ≡ row_at proto ext self.now }
     {
         self.in_at(proto, ext).map(RowId)
-    }
-
-    fn out_at(&self, key: &InnerKey) -> Option<usize>
-        ensures { result ≡ position (is_of key.now) self.now }
-    {
-        self.rows.iter().position(|r| is_same_key(key, &r.key))
     }
 
     fn in_at(&self, proto: Proto, ext: Ext) -> Option<usize>
@@ -119,19 +153,6 @@ impl Table {
         })
     }
 
-    /// Whether the peers of a subscriber's rows are fewer than the limit (RFC 6888 3, REQ-5).
-    pub fn has_fewer_peers(&self, owner: Subscriber, limit: u32) -> bool
-        ensures { result ≡ nat_lt (peer_count owner self.now) limit }
-    {
-        let mut count = 0u64;
-        for row in &self.rows {
-            if owner.is(row.owner) {
-                count = count.saturating_add(row.peers.len() as u64);
-            }
-        }
-        count < u64::from(limit)
-    }
-
     /// Adds a row behind the others. `NoMemory` changes nothing.
     pub fn insert(&mut self, row: Row) -> Result<(), NoMemory>
         ensures ok { OnOk result (self.new ≡ self.old ++ row ∷ []) }
@@ -142,21 +163,25 @@ impl Table {
     }
 
     /// Puts a peer into the row that stands there: in the place of the one at its address, or behind all. No other row is
-    /// visited. After `NoMemory` nothing is said of the rows, which are only dropped.
+    /// visited. `NoMemory` changes nothing.
     pub fn touch(&mut self, id: RowId, peer: Peer) -> Result<(), NoMemory>
         requires { id.0 < length self.old }
-        ensures { OnOk result (self.new ≡ touched_at id.0 peer self.old) }
+        ensures ok { OnOk result (self.new ≡ touched_at id.0 peer self.old) }
+        ensures err { OnErr result (self.new ≡ self.old) }
     {
         let row = &mut self.rows[id.0];
         put_peer(&mut row.peers, peer)
     }
 
     /// Lets the peers go whose deadline is not past `now`, and then the rows that have none left
-    /// (RFC 4787 4.3). It takes no memory.
-    pub fn expire(&mut self, now: Moment)
-        ensures { self.new ≡ expired now.0 self.old }
+    /// (RFC 4787 4.3). The answer is whether a row went. It takes no memory.
+    pub fn expire(&mut self, now: Moment) -> bool
+        ensures rows { self.new ≡ expired now.0 self.old }
+        ensures went { result ≡ nat_lt (length self.new) (length self.old) }
     {
+        let before = self.rows.len();
         self.rows.retain_mut(|row| is_live_at(now, row));
+        self.rows.len() < before
     }
 }
 
@@ -167,9 +192,27 @@ pub(crate) fn has_peer(remote: Ip4, peers: &[Peer]) -> bool
     peers.iter().any(|p| remote.0 == p.addr.0)
 }
 
+// what a subscriber has with one row more
+fn usage_with(usage: Usage, owner: Subscriber, row: &Row) -> Usage
+    ensures rows { result.rows
+        ≡ min (usage.rows + (if subscriber_eq owner row.now.owner then 1 else 0)) (2 ^ 64 - 1) }
+    ensures peers { result.peers
+        ≡ min (usage.peers + (if subscriber_eq owner row.now.owner then length row.now.peers else 0)) (2 ^ 64 - 1) }
+{
+    if owner.is(row.owner) {
+        Usage {
+            rows: usage.rows.saturating_add(1),
+            peers: usage.peers.saturating_add(row.peers.len() as u64),
+        }
+    } else {
+        usage
+    }
+}
+
 // puts a peer in the place of the one at its address, or behind all
 fn put_peer(peers: &mut List<Peer>, peer: Peer) -> Result<(), NoMemory>
-    ensures { OnOk result (peers.new ≡ with_peer peer peers.old) }
+    ensures ok { OnOk result (peers.new ≡ with_peer peer peers.old) }
+    ensures err { OnErr result (peers.new ≡ peers.old) }
 {
     if replace_peer(peers, peer) {
         return Ok(());

@@ -2,7 +2,7 @@
 ghost use Rattle.std.specs.Prelude.{◌≡◌, Ok, Err, None, IfOk, IfErr, OnOk};
 ghost use Rattle.xlate_core.specs.Datagram.{key_of};
 ghost use Rattle.xlate_core.specs.Outbound.{drop_for, carried_to, inner_of, tunnelled, outward, outbound_of};
-ghost use Rattle.xlate_core.specs.Step.{admitted_outbound, outbound_step, sent_out};
+ghost use Rattle.xlate_core.specs.Step.{admitted_outbound, mapped, outbound_step, sent_out};
 ghost use Rattle.xlate_core.specs.Stepped.{HasStepped};
 ghost use Rattle.xlate_core.specs.nat_mapping.Rows.{row_of};
 ghost use Rattle.wire_ip6.specs.Chain.{chain_in};
@@ -177,14 +177,19 @@ impl Core {
             (λ a. admitted_outbound self.now bytes.now ≡ Ok (a.got, a.grant)) }
         ensures row { IfOk result
             (λ a. a.row ≡ row_of (key_of a.got.who.softwire a.got.datagram) self.now.rows) }
+        ensures grant { IfOk result (λ a. mapped self.now a.got ≡ Ok a.grant) }
         ensures refusal { IfErr result (λ cause. admitted_outbound self.now bytes.now ≡ Err cause) }
     {
         require(self.floor.0 < self.clock.0, DropCause::Settling)?;
         let got = outbound_of(&self.config, bytes)?;
         let flow = got.flow();
-        let row = self.row_of(&flow);
-        let grant = self.granted(&flow, row)?;
-        Ok(Admitted { got, row, grant })
+        let found = self.search(&flow);
+        let grant = self.granted(&flow, &found)?;
+        Ok(Admitted {
+            got,
+            row: found.row,
+            grant,
+        })
     }
 
     // what an admitted datagram does
@@ -194,8 +199,9 @@ impl Core {
         admitted: &Admitted<'_>,
         out: &mut StepOut,
     ) -> Result<(), NoMemory>
-        requires { let got = admitted.now.got in
+        requires row { let got = admitted.now.got in
             admitted.now.row ≡ row_of (key_of got.who.softwire got.datagram) self.old.rows }
+        requires grant { mapped self.old admitted.now.got ≡ Ok admitted.now.grant }
         ensures { OnOk result (HasStepped
             (sent_out self.old admitted.now.got admitted.now.grant) out.old self.new out.new None) }
     {

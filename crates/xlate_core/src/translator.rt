@@ -23,13 +23,16 @@ pub struct Core {
     pub(crate) floor: Moment,
     pub(crate) table: Table,
     pub(crate) blocks: Blocks,
+    // whether a row is known to have its place in each open lease, so that none is idle
+    pub(crate) all_used: bool,
 }
 
 impl Model for Core {
-    ghost use Rattle.std.specs.Prelude.{◌≡◌, ◌≤◌, true};
+    ghost use Rattle.std.specs.Prelude.{◌≡◌, ◌≤◌, ◌&&◌, true, false};
     ghost use Rattle.aftr_base.specs.Limits.{moment_limit};
     ghost use Rattle.cfg_text.specs.Accepted.{is_accepted};
     ghost use Rattle.xlate_core.specs.State.{State};
+    ghost use Rattle.xlate_core.specs.Expiry.{has_idle};
 
     ghost Value = { State };
 
@@ -41,7 +44,8 @@ impl Model for Core {
       leases = c.blocks;
     } };
 
-    ghost invariant = { λ c. (is_accepted c.config ≡ true) × (c.clock.0 ≤ moment_limit) };
+    ghost invariant = { λ c. (is_accepted c.config ≡ true) × (c.clock.0 ≤ moment_limit)
+        × ((c.all_used && has_idle c.table c.blocks) ≡ false) };
 }
 
 impl Core {
@@ -56,6 +60,7 @@ impl Core {
             floor: Moment(0),
             table: Table::new(alloc),
             blocks: Blocks::new(alloc),
+            all_used: true,
         })
     }
 

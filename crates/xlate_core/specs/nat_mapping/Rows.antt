@@ -1,7 +1,7 @@
 -- Mapping rows (RFC 4787 4), as a list in order of making.
-use Rattle.std.specs.Prelude.{ℕ, zero, suc, ◌+◌, ◌-◌, Bool, not, ◌&&◌, nat_lt, List, [], ◌∷◌, ◌++◌, length, map, filter, find, sum_by}
-use Rattle.std.specs.Prelude.{Option, option_map, if◌then◌else◌}
-use Rattle.std.specs.List.{list_any, position, range_with_len}
+use Rattle.std.specs.Prelude.{ℕ, zero, suc, ◌+◌, ◌-◌, ◌^◌, Bool, not, ◌&&◌, nat_lt, List, [], ◌∷◌, ◌++◌, length, map, filter, find, sum_by}
+use Rattle.std.specs.Prelude.{min, take, Option, option_map, if◌then◌else◌}
+use Rattle.std.specs.List.{list_any, position, position_or_len, range_with_len}
 use Rattle.aftr_base.specs.Value.{ip4_eq, place_eq, proto_eq, key_eq, subscriber_eq, is_within, place}
 use Rattle.aftr_base.specs.declared.value.Ip4.{Ip4}
 use Rattle.aftr_base.specs.declared.value.Ext.{Ext}
@@ -11,6 +11,8 @@ use Rattle.aftr_base.specs.declared.value.Subscriber.{Subscriber}
 use Rattle.xlate_core.specs.declared.nat_mapping.Row.{Row}
 use Rattle.xlate_core.specs.declared.nat_mapping.RowId.{RowId}
 use Rattle.xlate_core.specs.declared.nat_mapping.Peer.{Peer}
+use Rattle.xlate_core.specs.declared.nat_mapping.Search.{Search}
+use Rattle.xlate_core.specs.declared.nat_mapping.Usage.{Usage}
 
 -- the row of an inner key, and the row of an external place
 abbrev pub is_of : InnerKey → Row → Bool
@@ -61,9 +63,20 @@ touched_at at p [] = []
 touched_at zero p (r ∷ rows) = record r { peers = with_peer p r.peers } ∷ rows
 touched_at (suc at) p (r ∷ rows) = r ∷ touched_at at p rows
 
--- how many peers one owner has
+-- how many rows one owner has, and how many peers
+abbrev pub row_count : Subscriber → List Row → ℕ
+row_count s rows = sum_by (λ (r : Row). if subscriber_eq s r.owner then 1 else 0) rows
+
 abbrev pub peer_count : Subscriber → List Row → ℕ
 peer_count s rows = sum_by (λ (r : Row). if subscriber_eq s r.owner then length r.peers else 0) rows
+
+-- both, where a count stands still at the greatest number of 64 bits
+abbrev pub usage_of : Subscriber → List Row → Usage
+usage_of s rows = record { rows = min (row_count s rows) (2 ^ 64 - 1); peers = min (peer_count s rows) (2 ^ 64 - 1) }
+
+-- where the row of a key stands, and what an owner has before it, or in all rows
+abbrev pub search_of : InnerKey → Subscriber → List Row → Search
+search_of key s rows = record { row = row_of key rows; before = usage_of s (take (position_or_len (is_of key) rows) rows) }
 
 -- ---- expiry
 

@@ -2,6 +2,7 @@ use Rattle.std.proofs.Common.{◌≡◌, ◌<◌, suc, length, sym, ◌∙◌, a
 use Rattle.aftr_base.specs.declared.event.LogEvent.{LogEvent}
 use Rattle.xlate_core.proofs.Closings.{outcome, outcome_ended, outcome_busy, outcome_spent, closings_from, closings_ended, closings_busy}
 use Rattle.xlate_core.proofs.Closings.{closings_spent}
+use Rattle.xlate_core.proofs.IdleLeases.{none_busy, none_ended}
 use Rattle.xlate_core.proofs.expiry.close_idle.Goals as goal
 use Rattle.xlate_core.proofs.expiry.close_idle.Goals.{then-left-gt0+then-is_idle+in_ok-push, else-left-gt0}
 use Rattle.xlate_core.proofs.expiry.close_idle.Goals.{else-left-gt0-via-then-left-gt0+else-is_idle, else-left-gt0-via-else-left-gt0}
@@ -25,6 +26,8 @@ loop-lease-preserved c =
                 was.lease-index _ lt one_less w.lease-items-is
                 (w.log-is ∙ w.in_ok-push.ensures.ok ∙ ap (λ (e : LogEvent). was.log ++ e ∷ []) w.block_event.ensures)
                 idle ∙ was.invariant.closed;
+            none = λ more. none_ended now rows was.lease-items ls was.lease-index _ lt w.lease-items-is
+                (was.invariant.none (omega (arith, one_less)));
           }
       | else-left-gt0 w ↦
           let as_left = ap (λ (n : ℕ). outcome n now rows ls (was.lease-index + 1)) w.left-is in
@@ -40,6 +43,8 @@ loop-lease-preserved c =
                   closed = as_closed
                       ∙ ap (λ (xs : List LogEvent). was.log ++ xs)
                       (closings_busy was.left now rows was.lease-items ls was.lease-index _ lt same busy) ∙ was.invariant.closed;
+                  none = λ more. none_busy rows was.lease-items ls was.lease-index _ lt same busy
+                      (was.invariant.none (omega (arith, more, w.left-is)));
                 }
             | else-left-gt0-via-else-left-gt0 v ↦
                 let same = w.lease-items-is ∙ v.lease-items-is in
@@ -50,6 +55,7 @@ loop-lease-preserved c =
                       ∙ ap (λ (xs : List LogEvent). was.log ++ xs)
                       (closings_spent was.left now rows was.lease-items ls was.lease-index _ lt same v.if-left-gt0.false)
                       ∙ was.invariant.closed;
+                  none = λ more. absurd (omega (arith, more, w.left-is, v.if-left-gt0.false));
                 }
           ]
     ]

@@ -1,4 +1,4 @@
-use Rattle.std.proofs.Common.{◌≡◌, ◌≤◌, ◌+◌, ◌++◌, ◌∷◌, [], ℕ, List, Vec, Global, length, sym, ap, ◌∙◌, arith}
+use Rattle.std.proofs.Common.{◌++◌, ◌∷◌, [], ℕ, List, Vec, Global, length, ap, ◌∙◌, arith}
 use Rattle.cfg_text.proofs.Facts.{facts}
 use Rattle.softwire.specs.Tunnel.{carrier, tunnel_fields}
 use Rattle.xlate_core.specs.State.{State}

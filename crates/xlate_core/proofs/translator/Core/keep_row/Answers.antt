@@ -6,8 +6,35 @@ use Rattle.xlate_core.specs.State.{State}
 use Rattle.xlate_core.specs.nat_mapping.Rows.{touched_at}
 use Rattle.xlate_core.specs.Grant.{peer_of, row_for}
 use Rattle.xlate_core.specs.contracts.translator.Core.{the_view}
+use Rattle.xlate_core.proofs.IdleLeases.{either_way, known_pushed, known_same, known_touched}
 use Rattle.xlate_core.proofs.Positions.{kept_there, kept_anew, after_row_is}
 use Rattle.xlate_core.proofs.translator.Core.keep_row.Goals as goal
+
+pub invariant_of-self : goal.invariant_of-self
+invariant_of-self c =
+    let was = c.self.inside in
+    let rows = c.touch.new.self in (
+      c.self.invariant.0,
+      c.self.invariant.1,
+      either_way c.touch.result
+          (λ put. known_touched was.all_used was.table rows was.blocks c.in-Some.id.0 c.peer_of-peer.result put c.self.invariant.2)
+          (λ same. known_same was.all_used was.table rows was.blocks same c.self.invariant.2)
+          c.touch.ensures.ok c.touch.ensures.err,
+    )
+
+pub invariant_of-self-in-None : goal.invariant_of-self-in-None
+invariant_of-self-in-None c =
+    let f = c.args.flow.now in
+    let was = c.self.inside in
+    let rows = c.add_row.new.table in
+    let row = row_for f.who f.key c.peer_of-peer.result c.args.place in (
+      c.self.invariant.0,
+      c.self.invariant.1,
+      either_way c.add_row.result
+          (λ put. known_pushed was.all_used was.table rows was.blocks row put c.self.invariant.2)
+          (λ same. known_same was.all_used was.table rows was.blocks same c.self.invariant.2)
+          c.add_row.ensures.ok c.add_row.ensures.err,
+    )
 
 pub returns-in-Some : goal.returns-in-Some
 returns-in-Some c =
@@ -19,7 +46,7 @@ returns-in-Some c =
     (put ∙ ap (λ (p : Peer). touched_at c.in-Some.id.0 p c.self.inside.table) c.peer_of-peer.ensures
     ∙ ap (touched_at c.in-Some.id.0 (peer_of s f.remote)) rows_are
     ∙ kept_there f.who f.key (peer_of s f.remote) c.args.place s.rows c.in-Some.id (sym c.in-Some.is ∙ c.requires)))
-    c.touch.ensures
+    c.touch.ensures.ok
 
 pub returns-in-None : goal.returns-in-None
 returns-in-None c =
@@ -31,4 +58,4 @@ returns-in-None c =
     (put ∙ ap (λ (p : Peer). c.self.inside.table ++ row_for f.who f.key p c.args.place ∷ []) c.peer_of-peer.ensures
     ∙ ap (λ (rs : List Row). rs ++ row_for f.who f.key (peer_of s f.remote) c.args.place ∷ []) rows_are
     ∙ kept_anew f.who f.key (peer_of s f.remote) c.args.place s.rows (sym c.in-None.is ∙ c.requires)))
-    c.add_row.ensures
+    c.add_row.ensures.ok
