@@ -66,7 +66,7 @@ pub enum LogEvent {
 /// Why a record was dropped, in the order in which the causes are reported. A cause that says so isn't given yet.
 #[derive(Clone, Copy, Debug, PartialEq, Eq)]
 pub enum DropCause {
-    /// A packet while the clock, the greatest moment so far, is 0.
+    /// A packet while the clock, the greatest moment so far, isn't past the floor: the end of what the log told before the run.
     Settling,
     /// A record that was captured in part.
     Snapped,

@@ -9,7 +9,7 @@ ghost use Rattle.cfg_text.specs.Accepted.{AcceptedFacts, are_quotas, are_sizes, 
 ghost use Rattle.cfg_text.specs.Accepted.{is_accepted, spec_of};
 
 use crate::config::Config;
-use aftr_base::{Ip4, Prefix4, Prefix6};
+use aftr_base::{Ip4, PlanSpec, Prefix4, Prefix6};
 
 // the softwire's own addresses, 192.0.0.0/29 (RFC 6333 section 5.7)
 const TUNNEL: Prefix4 = Prefix4 {
@@ -41,30 +41,13 @@ impl Config {
     fn has_plan_values(&self) -> bool
         ensures { result ≡ is_plan (spec_of self.now) }
     {
-        let len = self.subscriber_len;
-        let aggregates = self.aggregates.as_slice();
-        let pool = self.pool.as_slice();
-        (16..=128).contains(&len)
-            && are_rising_aggregates(len, aggregates)
-            && is_rising_pool(pool)
-            && is_size_of_blocks(self.block_size)
-            && self.has_ratio()
-    }
-
-    // the plan, if there is one, has a place for each subscriber
-    fn has_ratio(&self) -> bool
-        requires len { self.now.subscriber_len ≤ 128 }
-        requires aggregates { are_aggregates self.now.subscriber_len self.now.aggregates ≡ true }
-        requires pool { is_pool self.now.pool ≡ true }
-        requires size { is_block_size self.now.block_size ≡ true }
-        ensures { let addresses = address_count self.now.pool in
-            let subscribers = subscriber_count self.now.subscriber_len self.now.aggregates in
-            result ≡ is_ratio self.now.ratio self.now.block_size addresses subscribers }
-    {
-        let addresses = count_addresses(self.pool.as_slice());
-        let subscribers = count_subscribers(self.subscriber_len, self.aggregates.as_slice());
-        self.ratio <= 64_512 / self.block_size
-            && (self.ratio == 0 || subscribers <= addresses * u64::from(self.ratio))
+        are_of_plan(
+            self.subscriber_len,
+            self.block_size,
+            self.ratio,
+            self.aggregates.as_slice(),
+            self.pool.as_slice(),
+        )
     }
 
     fn has_quotas(&self) -> bool
@@ -97,6 +80,63 @@ impl Config {
             && (576..=65_535).contains(&self.public_mtu)
             && (17..=1_099_511_627_776).contains(&self.log_limit)
     }
+}
+
+// ---- the plan
+
+/// Whether a plan may have these values: each is in its range, the prefixes are in order, and there is a place for each
+/// subscriber (RFC 7422 section 2). A ratio of 0 stands for no plan.
+pub fn accepts_plan(spec: &PlanSpec) -> bool
+    ensures { result ≡ is_plan spec.now }
+{
+    are_of_plan(
+        spec.subscriber_len,
+        spec.block_size,
+        spec.ratio,
+        spec.aggregates.as_slice(),
+        spec.pool.as_slice(),
+    )
+}
+
+fn are_of_plan(
+    len: u8,
+    block_size: u16,
+    ratio: u16,
+    aggregates: &[Prefix6],
+    pool: &[Prefix4],
+) -> bool
+    ensures { result ≡ is_plan record {
+      subscriber_len = len;
+      block_size = block_size;
+      ratio = ratio;
+      aggregates = aggregates.now;
+      pool = pool.now;
+    } }
+{
+    (16..=128).contains(&len)
+        && are_rising_aggregates(len, aggregates)
+        && is_rising_pool(pool)
+        && is_size_of_blocks(block_size)
+        && has_places(len, block_size, ratio, aggregates, pool)
+}
+
+// the plan, if there is one, has a place for each subscriber
+fn has_places(
+    len: u8,
+    block_size: u16,
+    ratio: u16,
+    aggregates: &[Prefix6],
+    pool: &[Prefix4],
+) -> bool
+    requires len { len ≤ 128 }
+    requires aggregates { are_aggregates len aggregates.now ≡ true }
+    requires pool { is_pool pool.now ≡ true }
+    requires size { is_block_size block_size ≡ true }
+    ensures { result ≡ is_ratio ratio block_size (address_count pool.now) (subscriber_count len aggregates.now) }
+{
+    let addresses = count_addresses(pool);
+    let subscribers = count_subscribers(len, aggregates);
+    ratio <= 64_512 / block_size && (ratio == 0 || subscribers <= addresses * u64::from(ratio))
 }
 
 // a power of two, 16 to 16384: what divides the greatest

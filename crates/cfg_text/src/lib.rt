@@ -6,4 +6,5 @@ mod accepted;
 mod bounds;
 mod config;
 
+pub use accepted::accepts_plan;
 pub use config::{Config, Filter};

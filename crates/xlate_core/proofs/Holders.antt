@@ -14,11 +14,11 @@ use Rattle.aftr_base.specs.declared.value.Subscriber.{Subscriber}
 use Rattle.aftr_base.specs.declared.row.LeaseRow.{LeaseRow}
 use Rattle.aftr_base.proofs.Founds.{any_where}
 use Rattle.aftr_base.proofs.Pairwise.{any_zip, pairwise_from}
-use Rattle.xlate_core.specs.State.{State}
+use Rattle.xlate_core.specs.State.{State, latest}
 use Rattle.xlate_core.specs.Valid.{IsValid, clash, is_lease_by}
 use Rattle.xlate_core.proofs.SoleItems.{AreExclusive, few_kept, one_kept}
 use Rattle.xlate_core.proofs.LeasesOver.{AreLater, Later, Stays, Ends}
-use Rattle.xlate_core.proofs.ValidExpiry.{lease_parts, over_before, here_parts, lies_here}
+use Rattle.xlate_core.proofs.ValidExpiry.{lease_parts, open_begun, over_before, here_parts, lies_here}
 use Rattle.xlate_core.proofs.ValidRows.{same_subscriber, lies_at}
 
 -- ---- who holds a place at a moment
@@ -161,11 +161,11 @@ held_later {s = s} {t = t} owner addr port at later le h =
     (held_more later.kept later.more owner addr port at kept)
 
 -- a place in an open lease is held for its owner now
-place_held : (now : ℕ) (owner : Subscriber) (e : Ext) (l : LeaseRow) → is_lease_by now l ≡ true → lies_here owner e l ≡ true
+place_held : (now latest : ℕ) (owner : Subscriber) (e : Ext) (l : LeaseRow) → is_lease_by now latest l ≡ true → lies_here owner e l ≡ true
     → holds_for owner e.addr e.port now l ≡ true
-place_held now owner e l by lies =
+place_held now latest owner e l by lies =
     let x = here_parts owner e l lies in
-    let begun = (lease_parts now l by).begun in
+    let begun = open_begun x.lasts (lease_parts now latest l by) in
     let there : HoldsPlace e.addr e.port now l =
     record { addr_is = x.addr; low = x.low; high = x.high; begun = begun; lasts = open_lasts now l.until x.lasts } in
     and_from (holds e.addr e.port now l) (subscriber_eq owner l.owner) (holds_from there) x.owns
@@ -173,5 +173,5 @@ place_held now owner e l by lies =
 pub held_now : (s : State) (owner : Subscriber) (e : Ext) → IsValid s → lies_at s.leases owner e ≡ true
     → IsHeld s.leases owner e.addr e.port s.clock
 held_now s owner e v h =
-    any_where (λ l. is_lease_by s.clock l ≡ true) (lies_here owner e) (holds_for owner e.addr e.port s.clock)
-    (λ l by lies. place_held s.clock owner e l by lies) s.leases v.leases h
+    any_where (λ l. is_lease_by s.clock (latest s) l ≡ true) (lies_here owner e) (holds_for owner e.addr e.port s.clock)
+    (λ l by lies. place_held s.clock (latest s) owner e l by lies) s.leases v.leases h

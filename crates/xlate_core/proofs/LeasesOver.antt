@@ -150,8 +150,19 @@ later_opened {s = s} {t = t} opens = record {
   began = one_began s.clock opens.lease opens.new;
 }
 
+later_raised : {s t : State} (horizon : ℕ) → AreLater s t → AreLater s (record t { horizon = horizon })
+later_raised horizon later = record {
+  clock = later.clock;
+  kept = later.kept;
+  more = later.more;
+  leases = later.leases;
+  became = later.became;
+  began = later.began;
+}
+
 pub later_step : (s : State) (e : Event) → is_accepted s.config ≡ true → AreLater s (step s e).state
-later_step s e ok = later_then (later_moment e.at.0 s) (later_opened (opens_step s e ok))
+later_step s e ok =
+    later_then (later_moment e.at.0 s) (later_raised (step s e).state.horizon (later_opened (opens_step s e ok)))
 
 pub later_run : (s : State) (events : List Event) → is_accepted s.config ≡ true → AreLater s (run s events).state
 later_run s [] ok = later_same s

@@ -9,8 +9,8 @@ use Rattle.aftr_base.specs.declared.value.Side.TheVariants.{Softwire as Softwire
 use Rattle.aftr_base.specs.declared.row.LeaseRow.{LeaseRow}
 use Rattle.aftr_base.specs.declared.event.Event.{Event}
 use Rattle.aftr_base.specs.declared.event.EventKind.{EventKind}
+use Rattle.aftr_base.specs.declared.told.Told.{Told}
 use Rattle.cfg_text.specs.declared.config.Config.{Config}
-use Rattle.cfg_text.specs.Accepted.{is_accepted}
 use Rattle.xlate_core.specs.declared.grant.Grant.{Grant}
 use Rattle.xlate_core.specs.declared.step_out.Item.{Item}
 use Rattle.xlate_core.specs.State.{State, Step}
@@ -19,7 +19,7 @@ use Rattle.xlate_core.specs.Outbound.{Outbound}
 use Rattle.xlate_core.specs.Expiry.{at_moment}
 use Rattle.xlate_core.specs.Step.{step, treatment, sent_out, item, delivered_bytes}
 use Rattle.xlate_core.specs.Run.{run, start}
-use Rattle.xlate_core.specs.Valid.{IsValid}
+use Rattle.xlate_core.specs.Valid.{IsStart, IsValid}
 use Rattle.xlate_core.proofs.Holders.{IsHeld, holders, held_later, held_now, sole_holder}
 use Rattle.xlate_core.proofs.LeasesOver.{AreLater, later_run}
 use Rattle.xlate_core.proofs.Reached.{IsReached, reached_moment, reached_run, reached_start, reached_step}
@@ -152,6 +152,6 @@ names_run s events h =
     All-weaker (IsKept end.state) (IsNamed end.state.leases) (λ i kept. kept_named end.state i v kept) end.items (kept_run s events h)
 
 -- from the start on
-pub names_from : (c : Config) (events : List Event) → is_accepted c ≡ true
-    → All (IsNamed (run (start c) events).state.leases) (run (start c) events).items
-names_from c events ok = names_run (start c) events (reached_start c ok)
+pub names_from : {c : Config} {t : Told} (events : List Event) → IsStart c t
+    → All (IsNamed (run (start c t) events).state.leases) (run (start c t) events).items
+names_from {c = c} {t = t} events h = names_run (start c t) events (reached_start h)

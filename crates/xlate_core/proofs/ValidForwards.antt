@@ -27,7 +27,7 @@ use Rattle.xlate_core.specs.nat_mapping.Rows.{find_out, is_at, touched}
 use Rattle.xlate_core.specs.port_blocks.Free.{block_anywhere, opened, has_ended_for, last_port}
 use Rattle.xlate_core.specs.subscriber_table.Under.{subscriber_of}
 use Rattle.xlate_core.specs.declared.grant.Sender.{Sender}
-use Rattle.xlate_core.specs.State.{State}
+use Rattle.xlate_core.specs.State.{State, latest}
 use Rattle.xlate_core.specs.Valid.{IsValid, lies_in_lease, is_granted, is_owned, is_lease_by}
 use Rattle.xlate_core.specs.declared.grant.Grant.{Grant}
 use Rattle.xlate_core.specs.Grant.{at_once, new_lease, row_for, peer_of, after_grant}
@@ -61,9 +61,10 @@ abbrev first_place : Ip4 × ℕ → Ext
 first_place b = place b.0 b.1
 
 lease_opens : (s : State) (owner : Subscriber) (b : Ip4 × ℕ) → 0 < s.config.block_size → is_prefix6 owner.0 ≡ true
-    → is_lease_by s.clock (lease_of s owner b) ≡ true
+    → is_lease_by s.clock (latest s) (lease_of s owner b) ≡ true
 lease_opens s owner b some prefix =
-    lease_from s.clock (lease_of s owner b) (record { owner = prefix; range = omega (arith, some); begun = omega arith; over = refl })
+    lease_from s.clock (latest s) (lease_of s owner b)
+    (record { owner = prefix; range = omega (arith, some); over = le-leb s.clock s.clock (omega arith) })
 
 -- its first port lies in it
 lies_first : (s : State) (owner : Subscriber) (b : Ip4 × ℕ) → 0 < s.config.block_size

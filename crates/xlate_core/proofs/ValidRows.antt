@@ -18,7 +18,7 @@ use Rattle.xlate_core.specs.declared.nat_mapping.Row.{Row}
 use Rattle.xlate_core.specs.declared.nat_mapping.Peer.{Peer}
 use Rattle.xlate_core.specs.nat_mapping.Rows.{is_at, touched, with_peer}
 use Rattle.xlate_core.specs.subscriber_table.Under.{subscriber_of}
-use Rattle.xlate_core.specs.State.{State}
+use Rattle.xlate_core.specs.State.{State, latest}
 use Rattle.xlate_core.specs.Valid.{IsValid, lies_in_lease, is_granted, is_owned, are_alike, clash, is_lease_by}
 use Rattle.xlate_core.specs.Grant.{granted}
 use Rattle.xlate_core.proofs.ValidExpiry.{lies_here}
@@ -136,12 +136,17 @@ granted_by s l r h =
     let lies = lies_in_lease r in
     list_any-append lies s.leases (l ∷ []) ∙ or_right (list_any lies s.leases) (list_any lies (l ∷ [])) (or_left (lies l) false h)
 
-pub valid_opened : (s : State) (l : LeaseRow) → IsValid s → is_lease_by s.clock l ≡ true → All (λ m. clash m l ≡ false) s.leases
+pub valid_opened : (s : State) (l : LeaseRow) → IsValid s → is_lease_by s.clock (latest s) l ≡ true → All (λ m. clash m l ≡ false) s.leases
     → IsValid (with_lease l s)
 valid_opened s l v by apart = record {
   granted = All-weaker (λ r. is_granted s r ≡ true) (λ r. is_granted (with_lease l s) r ≡ true) (granted_on s l) s.rows v.granted;
   owned = v.owned;
   apart = v.apart;
-  leases = All-push (λ m. is_lease_by s.clock m ≡ true) s.leases l v.leases by;
+  leases = All-push (λ m. is_lease_by s.clock (latest s) m ≡ true) s.leases l v.leases by;
   disjoint = all_pairs_push (λ x y. clash x y ≡ false) s.leases l v.disjoint apart;
 }
+
+-- ---- another horizon
+
+pub valid_horizon : (s : State) (horizon : ℕ) → IsValid s → IsValid (record s { horizon = horizon })
+valid_horizon s horizon v = record { granted = v.granted; owned = v.owned; apart = v.apart; leases = v.leases; disjoint = v.disjoint }

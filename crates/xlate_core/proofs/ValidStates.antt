@@ -3,30 +3,36 @@ use Rattle.std.proofs.Common.{◌≡◌, ℕ, ◌≤◌, true, List, [], ◌∷�
 use Rattle.std.proofs.lemmas.List.Elements.{All-nil, All-head, All-tail}
 use Rattle.aftr_base.specs.declared.event.Event.{Event}
 use Rattle.aftr_base.specs.declared.event.EventKind.{EventKind}
+use Rattle.aftr_base.specs.Told.{end_of}
+use Rattle.aftr_base.specs.declared.told.Told.{Told}
 use Rattle.cfg_text.specs.declared.config.Config.{Config}
 use Rattle.cfg_text.specs.Accepted.{is_accepted}
 use Rattle.xlate_core.specs.declared.grant.Grant.{Grant}
 use Rattle.xlate_core.specs.Outbound.{Outbound}
-use Rattle.xlate_core.specs.State.{State, Step}
+use Rattle.xlate_core.specs.State.{State, Step, latest}
 use Rattle.xlate_core.specs.Datagram.{key_of}
 use Rattle.xlate_core.specs.Expiry.{at_moment}
-use Rattle.xlate_core.specs.Valid.{IsValid, is_granted, is_owned, is_lease_by}
+use Rattle.xlate_core.specs.Valid.{IsStart, IsValid, is_granted, is_owned, is_lease_by}
 use Rattle.xlate_core.specs.Step.{step, treatment}
 use Rattle.xlate_core.specs.Run.{run, start}
-use Rattle.xlate_core.proofs.Clock.{config_stays, moment_clock}
+use Rattle.xlate_core.proofs.Clock.{config_stays, floor_stays, moment_clock}
 use Rattle.xlate_core.proofs.ValidExpiry.{valid_moment}
 use Rattle.xlate_core.proofs.ValidForwards.{valid_grant}
 use Rattle.xlate_core.proofs.ValidGrants.{IsGrant}
+use Rattle.xlate_core.proofs.ValidRows.{valid_horizon}
 use Rattle.xlate_core.proofs.Treatments.{IsOut, by_way}
 
-pub valid_start : (c : Config) → IsValid (start c)
-valid_start c = record {
-  granted = All-nil (λ r. is_granted (start c) r ≡ true);
-  owned = All-nil (λ r. is_owned (start c) r ≡ true);
-  apart = λ i j d lt within. absurd (omega arith);
-  leases = All-nil (λ l. is_lease_by 0 l ≡ true);
-  disjoint = λ i j d lt within. absurd (omega arith);
-}
+pub valid_start : {c : Config} {t : Told} → IsStart c t → IsValid (start c t)
+valid_start {c = c} {t = t} h =
+    let s = start c t in
+    let end : end_of t ≡ latest s = omega arith in
+    record {
+      granted = All-nil (λ r. is_granted s r ≡ true);
+      owned = All-nil (λ r. is_owned s r ≡ true);
+      apart = λ i j d lt within. absurd (omega arith);
+      leases = subst (λ (n : ℕ). All (λ l. is_lease_by 0 n l ≡ true) t.leases) end h.leases;
+      disjoint = h.disjoint;
+    }
 
 -- ---- a record's own treatment
 
@@ -34,13 +40,16 @@ valid_start c = record {
 pub record IsBeside (s : State) (t : Step) : Type 0 where
   pub clock : t.state.clock ≡ s.clock
   pub config : t.state.config ≡ s.config
+  pub floor : t.state.floor ≡ s.floor
+  pub horizon : t.state.horizon ≡ s.horizon
+  pub plans : t.state.plans ≡ s.plans
 
 pub treated_beside : (s : State) (bytes : List ℕ) (kind : EventKind) → IsBeside s (treatment s kind bytes)
 treated_beside s bytes kind = by_way (IsBeside s) s bytes kind (record {
-  rests = record { clock = refl; config = refl };
-  drops = λ cause. record { clock = refl; config = refl };
-  delivers = λ d r by. record { clock = refl; config = refl };
-  forwards = λ got g by. record { clock = refl; config = refl };
+  rests = record { clock = refl; config = refl; floor = refl; horizon = refl; plans = refl };
+  drops = λ cause. record { clock = refl; config = refl; floor = refl; horizon = refl; plans = refl };
+  delivers = λ d r by. record { clock = refl; config = refl; floor = refl; horizon = refl; plans = refl };
+  forwards = λ got g by. record { clock = refl; config = refl; floor = refl; horizon = refl; plans = refl };
 })
 
 -- a packet that goes out was granted its place
@@ -59,6 +68,10 @@ valid_treated s bytes kind ok v = by_way (λ (t : Step). IsValid t.state) s byte
 
 -- ---- a step
 
+-- the record's own treatment in the state that it is treated in
+abbrev own_of : State → Event → Step
+own_of s e = treatment (at_moment e.at.0 s).state e.kind e.bytes
+
 -- the configuration stays
 pub step_config : (s : State) (e : Event) → (step s e).state.config ≡ s.config
 step_config s e = (treated_beside (at_moment e.at.0 s).state e.bytes e.kind).config ∙ config_stays e.at.0 s
@@ -73,6 +86,10 @@ step_accepted s e ok = subst (λ (c : Config). is_accepted c ≡ true) (sym (ste
 pub step_clock_is : (s : State) (e : Event) → (step s e).state.clock ≡ max s.clock e.at.0
 step_clock_is s e = (treated_beside (at_moment e.at.0 s).state e.bytes e.kind).clock ∙ moment_clock e.at.0 s
 
+-- the floor stays
+pub step_floor : (s : State) (e : Event) → (step s e).state.floor ≡ s.floor
+step_floor s e = (treated_beside (at_moment e.at.0 s).state e.bytes e.kind).floor ∙ floor_stays e.at.0 s
+
 -- it doesn't fall
 pub step_clock : (s : State) (e : Event) → s.clock ≤ (step s e).state.clock
 step_clock s e = omega (arith, step_clock_is s e)
@@ -82,7 +99,9 @@ pub step_clock_most : (limit : ℕ) (s : State) (e : Event) → s.clock ≤ limi
 step_clock_most limit s e le at = omega (arith, step_clock_is s e, le, at)
 
 pub valid_step : (s : State) (e : Event) → is_accepted s.config ≡ true → IsValid s → IsValid (step s e).state
-valid_step s e ok v = valid_treated (at_moment e.at.0 s).state e.bytes e.kind (moment_accepted e.at.0 s ok) (valid_moment e.at.0 s v)
+valid_step s e ok v =
+    valid_horizon (own_of s e).state (step s e).state.horizon
+    (valid_treated (at_moment e.at.0 s).state e.bytes e.kind (moment_accepted e.at.0 s ok) (valid_moment e.at.0 s v))
 
 -- ---- a run
 
@@ -92,6 +111,10 @@ run_config s (e ∷ es) = run_config (step s e).state es ∙ step_config s e
 
 pub run_accepted : (s : State) (events : List Event) → is_accepted s.config ≡ true → is_accepted (run s events).state.config ≡ true
 run_accepted s events ok = subst (λ (c : Config). is_accepted c ≡ true) (sym (run_config s events)) ok
+
+pub run_floor : (s : State) (events : List Event) → (run s events).state.floor ≡ s.floor
+run_floor s [] = refl
+run_floor s (e ∷ es) = run_floor (step s e).state es ∙ step_floor s e
 
 pub run_clock : (s : State) (events : List Event) → s.clock ≤ (run s events).state.clock
 run_clock s [] = omega arith
@@ -113,5 +136,5 @@ valid_run s [] ok v = v
 valid_run s (e ∷ es) ok v = valid_run (step s e).state es (step_accepted s e ok) (valid_step s e ok v)
 
 -- from the start on
-pub valid_from : (c : Config) (events : List Event) → is_accepted c ≡ true → IsValid (run (start c) events).state
-valid_from c events ok = valid_run (start c) events ok (valid_start c)
+pub valid_from : {c : Config} {t : Told} (events : List Event) → IsStart c t → IsValid (run (start c t) events).state
+valid_from {c = c} {t = t} events h = valid_run (start c t) events h.accepted (valid_start h)

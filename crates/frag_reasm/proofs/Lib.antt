@@ -1,0 +1,10 @@
+pub mod Gathering
+pub mod Keeping
+pub mod Members
+pub mod Apart
+pub mod Walks
+pub mod Tilings
+pub mod Sound
+pub mod Offering
+pub mod Held
+pub mod InOrder

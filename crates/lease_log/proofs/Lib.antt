@@ -1,0 +1,12 @@
+pub mod Requiring
+pub mod Mapping
+pub mod SoundRows
+pub mod SoundSteps
+pub mod ToldSteps
+pub mod MessageBounds
+pub mod LogSteps
+pub mod MessageSteps
+pub mod RecordSizes
+pub mod BatchLaws
+pub mod AppendSteps
+pub mod WorkedLog

@@ -1,0 +1,111 @@
+-- Rows that are sound stay so as rows are added and end, and as the horizon rises.
+use Rattle.std.proofs.Common.{◌≡◌, ℕ, ◌≤◌, ◌<◌, Bool, true, false, cond, not, List, [], ◌∷◌, ◌++◌, length, get_or, map, All, AllPairs, refl, sym, ap, ◌∙◌, subst, arith}
+use Rattle.std.specs.Prelude.{◌&&◌, Some, None, IfSome}
+use Rattle.std.specs.List.{list_all, list_any}
+use Rattle.std.proofs.lemmas.Bool.Decides.{nat_tests}
+use Rattle.std.proofs.lemmas.List.Elements.{All-push, All-map, All-weaker}
+use Rattle.std.proofs.lemmas.List.Quantifiers.{all_pairs_push}
+use Rattle.aftr_base.specs.Limits.{log_moment_limit}
+use Rattle.aftr_base.specs.Plan.{is_plan, is_prefix6}
+use Rattle.aftr_base.specs.Row.{is_open, is_in_use, overlaps, ended, plan_ended}
+use Rattle.aftr_base.specs.Telling.{is_lease_of, lease_ended, lease_told}
+use Rattle.aftr_base.specs.declared.value.Ip4.{Ip4}
+use Rattle.aftr_base.specs.declared.value.Moment.{Moment}
+use Rattle.aftr_base.specs.declared.value.Subscriber.{Subscriber}
+use Rattle.aftr_base.specs.declared.row.LeaseRow.{LeaseRow}
+use Rattle.aftr_base.specs.declared.row.PlanRow.{PlanRow}
+use Rattle.aftr_base.proofs.Founds.{all_pass, none_any}
+use Rattle.aftr_base.proofs.Pairwise.{pairs_map}
+use Rattle.lease_log.specs.Sound.{IsSoundLease, IsSoundPlan, EndsInTime, clash}
+
+-- ---- the horizon rises
+
+pub lease_under : (low high : ℕ) → low ≤ high → (l : LeaseRow) → IsSoundLease low l → IsSoundLease high l
+lease_under low high rises l s = record { owner = s.owner; ports = s.ports; begun = omega (arith, s.begun); end = s.end }
+
+pub plan_under : (low high : ℕ) → low ≤ high → (p : PlanRow) → IsSoundPlan low p → IsSoundPlan high p
+plan_under low high rises p s = record { spec = s.spec; begun = omega (arith, s.begun); end = s.end }
+
+-- ---- leases
+
+-- an end that a test chose
+end_by : (horizon at : ℕ) (l : LeaseRow) (b : Bool) → at ≤ log_moment_limit → IsSoundLease horizon l
+    → IsSoundLease horizon (cond b (ended at l) l)
+end_by horizon at l true in_time s = record { owner = s.owner; ports = s.ports; begun = s.begun; end = in_time }
+end_by horizon at l false in_time s = s
+
+open_by : (at : ℕ) (l : LeaseRow) (b : Bool) → is_open l ≡ false → is_open (cond b (ended at l) l) ≡ false
+open_by at l true shut = refl
+open_by at l false shut = shut
+
+clash_by : (at : ℕ) (l m : LeaseRow) (b c : Bool) → clash l m ≡ false → clash (cond b (ended at l) l) (cond c (ended at m) m) ≡ false
+clash_by at l m true c h = refl
+clash_by at l m false true h = and_false (is_open l)
+  where
+    and_false : (b : Bool) → (b && false && overlaps l m.addr m.first m.last) ≡ false
+    and_false true = refl
+    and_false false = refl
+clash_by at l m false false h = h
+
+pub leases_ended : (owner : Subscriber) (addr : Ip4) (first last : ℕ) (at : Moment) (horizon : ℕ) (leases : List LeaseRow) → at.0 ≤ log_moment_limit
+    → All (IsSoundLease horizon) leases → All (IsSoundLease horizon) (map (lease_ended owner addr first last at) leases)
+leases_ended owner addr first last at horizon leases in_time all =
+    let f = lease_ended owner addr first last at in
+    All-map (IsSoundLease horizon) f leases
+    (All-weaker (IsSoundLease horizon) (λ l. IsSoundLease horizon (f l)) (λ l s. end_by horizon at.0 l (is_lease_of owner addr first last l) in_time s) leases all)
+
+pub apart_ended : (owner : Subscriber) (addr : Ip4) (first last : ℕ) (at : Moment) (leases : List LeaseRow)
+    → AllPairs (λ l m. clash l m ≡ false) leases → AllPairs (λ l m. clash l m ≡ false) (map (lease_ended owner addr first last at) leases)
+apart_ended owner addr first last at leases apart =
+    let is = is_lease_of owner addr first last in
+    pairs_map (λ l m. clash l m ≡ false) (λ l m. clash l m ≡ false) (lease_ended owner addr first last at)
+    (λ l m h. clash_by at.0 l m (is l) (is m) h) leases apart
+
+clash_free : (is shares : Bool) → not (is && shares) ≡ true → (is && true && shares) ≡ false
+clash_free true true h = sym h
+clash_free true false h = refl
+clash_free false shares h = refl
+
+pub apart_told : (owner : Subscriber) (addr : Ip4) (first last : ℕ) (at : Moment) (leases : List LeaseRow)
+    → list_all (λ l. not (is_open l && overlaps l addr first last)) leases ≡ true → AllPairs (λ l m. clash l m ≡ false) leases
+    → AllPairs (λ l m. clash l m ≡ false) (leases ++ lease_told owner addr first last at ∷ [])
+apart_told owner addr first last at leases free apart =
+    all_pairs_push (λ l m. clash l m ≡ false) leases (lease_told owner addr first last at) apart
+    (All-weaker (λ l. not (is_open l && overlaps l addr first last) ≡ true) (λ l. clash l (lease_told owner addr first last at) ≡ false)
+    (λ l h. clash_free (is_open l) (overlaps l addr first last) h) leases
+    (all_pass (λ l. not (is_open l && overlaps l addr first last)) leases free))
+
+-- ---- plans
+
+plan_end_by : (horizon at : ℕ) (p : PlanRow) (b : Bool) → at ≤ log_moment_limit → IsSoundPlan horizon p
+    → IsSoundPlan horizon (cond b (record p { until = Some record { 0 = at } }) p)
+plan_end_by horizon at p true in_time s = record { spec = s.spec; begun = s.begun; end = in_time }
+plan_end_by horizon at p false in_time s = s
+
+pub plans_ended : (at horizon : ℕ) (plans : List PlanRow) → at ≤ log_moment_limit → All (IsSoundPlan horizon) plans
+    → All (IsSoundPlan horizon) (map (plan_ended at) plans)
+plans_ended at horizon plans in_time all =
+    All-map (IsSoundPlan horizon) (plan_ended at) plans
+    (All-weaker (IsSoundPlan horizon) (λ p. IsSoundPlan horizon (plan_ended at p)) (λ p s. plan_end_by horizon at p (is_in_use p) in_time s) plans all)
+
+used_by : (at : ℕ) (p : PlanRow) (b : Bool) → is_in_use p ≡ b → is_in_use (cond b (record p { until = Some record { 0 = at } }) p) ≡ false
+used_by at p true h = refl
+used_by at p false h = h
+
+pub one_plan_ended : (at : ℕ) (plans : List PlanRow) → AllPairs (λ (p q : PlanRow). (is_in_use p && is_in_use q) ≡ false) plans
+    → AllPairs (λ (p q : PlanRow). (is_in_use p && is_in_use q) ≡ false) (map (plan_ended at) plans)
+one_plan_ended at plans one =
+    pairs_map (λ (p q : PlanRow). (is_in_use p && is_in_use q) ≡ false) (λ (p q : PlanRow). (is_in_use p && is_in_use q) ≡ false) (plan_ended at)
+    (λ p q h. ap (λ (b : Bool). b && is_in_use (plan_ended at q)) (used_by at p (is_in_use p) refl)) plans one
+
+and_first_false : (a b : Bool) → a ≡ false → (a && b) ≡ false
+and_first_false a b h = ap (λ (v : Bool). v && b) h
+
+pub one_plan_told : (p : PlanRow) (plans : List PlanRow) → list_any is_in_use plans ≡ false
+    → AllPairs (λ (p q : PlanRow). (is_in_use p && is_in_use q) ≡ false) (plans ++ p ∷ [])
+one_plan_told p plans none =
+    let unused = none_any is_in_use plans none in
+    all_pairs_push (λ (p q : PlanRow). (is_in_use p && is_in_use q) ≡ false) plans p
+    (λ i j d before within. and_first_false (is_in_use (get_or plans i d)) (is_in_use (get_or plans j d)) (unused i d (omega arith)))
+    (All-weaker (λ (q : PlanRow). is_in_use q ≡ false) (λ (q : PlanRow). (is_in_use q && is_in_use p) ≡ false)
+    (λ q h. and_first_false (is_in_use q) (is_in_use p) h) plans unused)

@@ -1,0 +1,6 @@
+pub mod Applying
+pub mod Sound
+pub mod Log
+pub mod Batch
+pub mod Answers
+pub mod Prepared

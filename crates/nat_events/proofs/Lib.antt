@@ -1,0 +1,13 @@
+pub mod Attempts
+pub mod Octets
+pub mod BlockLaws
+pub mod DigitLaws
+pub mod PlanTextLaws
+pub mod PlanRecordLaws
+pub mod RecordLaws
+pub mod BodyLaws
+pub mod SetLaws
+pub mod MessageLaws
+pub mod RecordsLaws
+pub mod TextLens
+pub mod ViewLaws

@@ -1,0 +1,6 @@
+use Rattle.std.proofs.Common.{◌≡◌, length, take}
+use Rattle.nat_events.specs.PlanText.{pool_text}
+use Rattle.nat_events.proofs.plan_writer.pool_len.Given as goal
+
+abbrev pub invariant-loop-prefix : goal.invariant-loop-prefix
+invariant-loop-prefix l = l.len ≡ length (pool_text (take l.prefix-index l.pool))

@@ -1,0 +1,7 @@
+pub mod Apart
+pub mod Kept
+pub mod Mapped
+pub mod Peers
+pub mod Parts
+pub mod Touched
+pub mod Usages

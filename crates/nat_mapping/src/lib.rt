@@ -1,0 +1,11 @@
+//! Mapping rows and their peers (RFC 4787 section 4).
+#![tactic(auto)]
+
+mod ports;
+mod row;
+mod table;
+#[cfg(test)]
+mod tests;
+
+pub use row::{Peer, Row};
+pub use table::{RowId, Table};

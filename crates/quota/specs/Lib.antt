@@ -1,0 +1,3 @@
+-- Words that the contracts are written in.
+pub mod Limits
+pub mod Usages
