@@ -2,7 +2,6 @@ mod ReportRows
 mod TextRows
 mod WindowSteps
 mod WorkedRows
-pub mod AppendStops
 pub mod Attribution
 pub mod Endings
 pub mod Firsts
@@ -11,16 +10,13 @@ pub mod FrameSteps
 pub mod FrontSteps
 pub mod GateStops
 pub mod Groups
-pub mod LeasesApart
 pub mod Lines
-pub mod LogReads
-pub mod LogsTold
-pub mod Records
-pub mod RecordsRead
+pub mod LogStops
+pub mod Logging
+pub mod Passing
 pub mod RunSteps
 pub mod RunStops
 pub mod Sending
 pub mod Spelled
-pub mod ToldSteps
 pub mod WordParts
 pub mod Writes

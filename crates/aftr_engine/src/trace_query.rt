@@ -1,42 +1,61 @@
 //! Who held a place at a moment (RFC 6888 4).
 ghost use Rattle.std.specs.Prelude.{◌≡◌, find};
 ghost use Rattle.std.specs.Option.{option_copied};
-ghost use Rattle.aftr_engine.specs.trace_query.Names.{holds, is_during, name_of};
+ghost use Rattle.aftr_engine.specs.trace_query.Names.{first_name, holds, is_during, name_of, names_of};
 
-use aftr_base::{Ip4, LeaseRow, Moment, Subscriber};
+use aftr_base::{Ip4, LeaseRow, Moment, Subscriber, Told};
 
-/// Who held a port of an address at a moment, in milliseconds: the owner of the first lease, in order of opening, that
-/// holds it then, with its begin and its end included. `None` where no lease does. Takes no memory.
-pub fn name(leases: &[LeaseRow], addr: Ip4, port: u16, at: Moment) -> Option<Subscriber>
-    ensures { result ≡ name_of leases.now addr port at.0 }
+/// Whom a log names.
+#[derive(Clone, Copy, Debug, PartialEq, Eq)]
+pub enum Named {
+    /// Who held the place then.
+    Subscriber(Subscriber),
+    /// Nobody held it.
+    Unheld,
+    /// The moment is past this one, the greatest that the log promises to name.
+    Beyond(Moment),
+}
+
+/// Who held a port of an address at a moment, in milliseconds, by the leases that a log tells: the owner of the first one, in
+/// order of opening, that holds it then, with its begin and its end included. `Beyond` comes where the moment is past the
+/// told horizon, and `Unheld` where no lease holds the place. An open lease holds up to the horizon. Takes no memory.
+pub fn name(told: &Told, addr: Ip4, port: u16, at: Moment) -> Named
+    ensures { result ≡ name_of told.now addr port at.0 }
 {
-    match holder(leases, addr, port, at) {
-        Some(lease) => Some(lease.owner),
-        None => None,
+    if told.horizon.0 < at.0 {
+        return Named::Beyond(told.horizon);
+    }
+    match holder(told, addr, port, at) {
+        Some(lease) => Named::Subscriber(lease.owner),
+        None => Named::Unheld,
     }
 }
 
 /// The first lease that holds a port of an address at a moment.
-fn holder(leases: &[LeaseRow], addr: Ip4, port: u16, at: Moment) -> Option<&LeaseRow>
-    ensures { option_copied result ≡ find (holds addr port at.0) leases.now }
+fn holder(told: &Told, addr: Ip4, port: u16, at: Moment) -> Option<&LeaseRow>
+    ensures { option_copied result
+        ≡ find (holds told.now.horizon.0 addr port at.0) told.now.leases }
 {
-    leases.iter().find(|l| holds(addr, port, at, l))
+    let horizon = told.horizon;
+    told.leases
+        .as_slice()
+        .iter()
+        .find(|l| holds(horizon, addr, port, at, l))
 }
 
 /// Whether a lease holds a port of an address at a moment.
-fn holds(addr: Ip4, port: u16, at: Moment, lease: &LeaseRow) -> bool
-    ensures { result ≡ holds addr port at.0 lease.now }
+fn holds(horizon: Moment, addr: Ip4, port: u16, at: Moment, lease: &LeaseRow) -> bool
+    ensures { result ≡ holds horizon.0 addr port at.0 lease.now }
 {
-    addr.0 == lease.addr.0 && lease.first <= port && port <= lease.last && is_during(lease, at)
+    addr.0 == lease.addr.0
+        && lease.first <= port
+        && port <= lease.last
+        && is_during(horizon, at, lease)
 }
 
-/// Whether a moment lies in a lease's time, both ends included. An open lease has no end.
-fn is_during(lease: &LeaseRow, at: Moment) -> bool
-    ensures { result ≡ is_during lease.now at.0 }
+/// Whether a moment lies in a lease's time, both ends included. An open lease ends at the horizon.
+fn is_during(horizon: Moment, at: Moment, lease: &LeaseRow) -> bool
+    ensures { result ≡ is_during horizon.0 lease.now at.0 }
 {
-    lease.since.0 <= at.0
-        && match lease.until {
-            None => true,
-            Some(until) => at.0 <= until.0,
-        }
+    lease.since.0 <= at.0 && at.0 <= lease.until.unwrap_or(horizon).0
 }

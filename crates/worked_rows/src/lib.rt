@@ -17,6 +17,10 @@ mod faults;
 #[cfg(test)]
 mod first_path;
 #[cfg(test)]
+mod logs;
+#[cfg(test)]
+mod making;
+#[cfg(test)]
 mod octets;
 #[cfg(test)]
 mod packets;

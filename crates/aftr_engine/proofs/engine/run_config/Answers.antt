@@ -1,9 +1,7 @@
-use Rattle.std.proofs.Common.{◌<◌, [], length, take, arith}
-use Rattle.xlate_core.proofs.ValidStates.{valid_from}
-use Rattle.aftr_engine.specs.link_records.Frames.{frames_of}
+use Rattle.std.proofs.Common.{◌<◌, [], length, arith}
 use Rattle.aftr_engine.specs.engine.Running.{at_first}
 use Rattle.aftr_engine.specs.engine.Texts.{text_of}
-use Rattle.aftr_engine.proofs.Attribution.{names_front}
+use Rattle.aftr_engine.proofs.Attribution.{names_front, valid_front}
 use Rattle.aftr_engine.proofs.Firsts.{first_is, first_used}
 use Rattle.aftr_engine.proofs.engine.run_config.Goals as goal
 
@@ -32,4 +30,4 @@ returns-clause-names g c = λ records.
 
 pub returns-clause-valid : goal.returns-clause-valid
 returns-clause-valid g c = λ records.
-    valid_from c.args.config (take records (frames_of (at_first [] g.I.Source.rest c.args.inputs.now)).events) c.requires.accepted
+    valid_front c.args.config records (at_first [] g.I.Source.rest c.args.inputs.now) c.requires.accepted

@@ -1,31 +1,48 @@
-use Rattle.std.proofs.Common.{◌≡◌, Bool, true, false, cond, List, [], ◌∷◌, Option, Some, refl, sym, ap, ◌∙◌}
-use Rattle.std.specs.Prelude.{filter, find, map, option_map, slice_get}
+use Rattle.std.proofs.Common.{◌≡◌, Bool, true, false, cond, List, [], ◌∷◌, Option, Some, None, refl, sym, ap, ◌∙◌}
+use Rattle.std.specs.Prelude.{filter, find, map}
+use Rattle.std.proofs.lemmas.Bool.{le-ltb}
 use Rattle.aftr_base.specs.declared.row.LeaseRow.{LeaseRow}
 use Rattle.aftr_base.specs.declared.value.Subscriber.{Subscriber}
-use Rattle.aftr_engine.specs.trace_query.Names.{holds}
+use Rattle.aftr_engine.specs.declared.trace_query.Named.{Named}
+use Rattle.aftr_engine.specs.declared.trace_query.Named.TheVariants.{Subscriber as NamedSubscriber, Unheld}
+use Rattle.aftr_engine.specs.trace_query.Names.{first_name, holds}
 use Rattle.aftr_engine.proofs.trace_query.name.Goals as goal
 
--- the first of the items that pass a test is the first item that passes it
-first_or_next : {X Y : Type 0} (f : X → Y) (b : Bool) (x : X) (ys : List X) (o : Option X) → slice_get (map f ys) 0 ≡ option_map f o
-    → slice_get (map f (cond b (x ∷ ys) ys)) 0 ≡ option_map f (cond b (Some x) o)
-first_or_next f true x ys o e = refl
-first_or_next f false x ys o e = e
-
-first_that_passes : {X Y : Type 0} (f : X → Y) (p : X → Bool) (xs : List X) → slice_get (map f (filter p xs)) 0 ≡ option_map f (find p xs)
-first_that_passes f p [] = refl
-first_that_passes f p (x ∷ xs) = first_or_next f (p x) x (filter p xs) (find p xs) (first_that_passes f p xs)
+-- the name that the first lease gives, if there is one
+name_by : Option LeaseRow → Named
+name_by None = Unheld
+name_by (Some l) = NamedSubscriber l.owner
 
 owner_of : LeaseRow → Subscriber
 owner_of l = l.owner
 
+first_or_next : (b : Bool) (x : LeaseRow) (ys : List LeaseRow) (o : Option LeaseRow) → first_name (map owner_of ys) ≡ name_by o
+    → first_name (map owner_of (cond b (x ∷ ys) ys)) ≡ name_by (cond b (Some x) o)
+unfolding owner_of name_by
+first_or_next true x ys o e = refl
+first_or_next false x ys o e = e
+
+first_that_holds : (p : LeaseRow → Bool) (xs : List LeaseRow) → first_name (map owner_of (filter p xs)) ≡ name_by (find p xs)
+unfolding owner_of name_by
+first_that_holds p [] = refl
+first_that_holds p (x ∷ xs) = first_or_next (p x) x (filter p xs) (find p xs) (first_that_holds p xs)
+
+-- up to the horizon it is the first name
+within : (horizon at : Bool) (beyond named : Named) → horizon ≡ false → cond horizon beyond named ≡ named
+within h at beyond named is = ap (λ (b : Bool). cond b beyond named) is
+
 pub returns-in-Some : goal.returns-in-Some
-unfolding owner_of
+unfolding owner_of name_by
 returns-in-Some c =
-    sym (first_that_passes owner_of (holds c.args.addr c.args.port c.args.at.0) c.args.leases.now
-    ∙ ap (option_map owner_of) (sym c.in-Some.ensures))
+    let t = c.args.told.now in
+    let test = holds t.horizon.0 c.args.addr c.args.port c.args.at.0 in
+    sym (within _ false _ _ (le-ltb t.horizon.0 c.args.at.0 c.if-told-at.false)
+    ∙ first_that_holds test t.leases ∙ ap name_by (sym c.in-Some.ensures))
 
 pub returns-in-None : goal.returns-in-None
-unfolding owner_of
+unfolding owner_of name_by
 returns-in-None c =
-    sym (first_that_passes owner_of (holds c.args.addr c.args.port c.args.at.0) c.args.leases.now
-    ∙ ap (option_map owner_of) (sym c.in-None.ensures))
+    let t = c.args.told.now in
+    let test = holds t.horizon.0 c.args.addr c.args.port c.args.at.0 in
+    sym (within _ false _ _ (le-ltb t.horizon.0 c.args.at.0 c.if-told-at.false)
+    ∙ first_that_holds test t.leases ∙ ap name_by (sym c.in-None.ensures))
