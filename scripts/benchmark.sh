@@ -18,9 +18,10 @@ folder=$(mktemp -d) || exit 1
 trap 'rm -rf "$folder"' EXIT
 : > "$folder/config.toml"
 
-# Prints how many nanoseconds one run of this program takes on an empty log.
+# Prints how many nanoseconds one run of this program takes on a log that was just made.
 time_run() {
     rm -f "$folder/log" "$folder/out"
+    "$1" init "$folder/log" || return 1
     local start end
     start=$(date +%s%N)
     "$1" run "$folder/config.toml" "$folder/log" "$folder/out" "$folder/in0" > "$folder/report" || return 1

@@ -1,5 +1,5 @@
 #!/usr/bin/env bash
-# Proves and builds the program, which then stands at crates/aftr/out/aftr, and runs it once on an input of no bytes.
+# Proves and builds the program, which then stands at crates/aftr/out/aftr, and makes a log with it once.
 # Where it was built from the sources as they are, nothing is done. It says what went wrong, and nothing else.
 set -u
 cd "$(dirname "$0")/.." || exit 1
@@ -12,10 +12,8 @@ if is_built; then exit 0; fi
 
 folder=$(mktemp -d) || exit 1
 trap 'rm -rf "$folder"' EXIT
-: > "$folder/config.toml"
-: > "$folder/in0"
 sources=$(sum_of_sources)
-(cd crates/aftr && rt run -- run "$folder/config.toml" "$folder/log" "$folder/out" "$folder/in0") > "$folder/said" 2>&1
+(cd crates/aftr && rt run -- init "$folder/log") > "$folder/said" 2>&1
 status=$?
 if [ "$status" -ne 0 ]; then
     cat "$folder/said" >&2

@@ -5,42 +5,20 @@ Bytes are hexadecimal digits, with spaces where they help.
 
 from __future__ import annotations
 
-from typing import Dict, Iterator, List, Mapping, NamedTuple, Optional, Sequence
+from typing import Iterator, List, Sequence
 
-MISSING = None
-RUN = ("run", "config.toml", "log", "out", "in0")
-Digits = Mapping[str, Optional[str]]
-
-
-class Case(NamedTuple):
-    """A call of the program in a folder of these files. Those that aren't among the left ones stay as they were."""
-
-    name: str
-    words: Sequence[str]
-    files: Digits
-    status: int
-    lines: Sequence[str]
-    left: Digits = {}
-
-    def before(self) -> Dict[str, bytes]:
-        return bytes_of(self.files)
-
-    def after(self) -> Dict[str, bytes]:
-        return bytes_of({**self.files, **self.left})
-
-    def report(self) -> str:
-        return "".join(f"{line}\n" for line in self.lines)
+from case import RUN, Case
+from log_cases import log_cases
+from log_digits import CLOSED_LOG, CLOSING_MESSAGE, EMPTY_LOG, FIRST_BLOCK, FIRST_LOG, FIRST_MESSAGE, FREE_MESSAGE
+from log_digits import HELD_MESSAGE, OTHER_BLOCK, PLAN_LOG, PLAN_MESSAGE, at, blocks, closing, frames, horizon, log_of
+from log_digits import message, plan
 
 
-def bytes_of(files: Digits) -> Dict[str, bytes]:
-    return {name: bytes.fromhex(digits) for name, digits in files.items() if digits is not MISSING}
-
-
-def run_of(name: str, records: str, sent: str, log: str, lines: Sequence[str], **files: str) -> Case:
-    """A run of these records over an empty configuration, with other files beside it, and what it sends and logs."""
-    before = {"config.toml": "", "in0": records, **files}
+def run_of(name: str, records: str, sent: str, logged: str, lines: Sequence[str], **files: str) -> Case:
+    """A run of these records over an empty configuration and log, with other files, and what it sends and logs."""
+    before = {"config.toml": "", "in0": records, "log": EMPTY_LOG, **files}
     status = {"BadInput": 3}.get(lines[0].split()[1], 0)
-    return Case(name, RUN, before, status, lines, {"log": log, "out": sent})
+    return Case(name, RUN, before, status, lines, {"log": logged, "out": sent})
 
 
 def summary(records: int, sent: int, *drops: str) -> List[str]:
@@ -56,8 +34,6 @@ FIRST_PACKET = """00000051 01 00000000000f4240 60000000 0020 04 40
 # It leaves from the pool's first place, 192.0.2.8 port 1024, with one hop less.
 FIRST_SENT = """00000029 02 00000000000f4240
     45000020 00010000 3f117dbe c0000208 cb007105 04000035 000c38cc 61626364"""
-# The log: at this moment this prefix got ports 1024 to 1535 of 192.0.2.8.
-FIRST_LEASE = "00000000000f4240 10 20010db8010000000000000000000000 38 c0000208 0400 05ff"
 
 # Half a second later, from the same port to another remote.
 OTHER_REMOTE = """00000051 01 00000000000f4434 60000000 0020 04 40
@@ -72,7 +48,6 @@ OTHER_SUBSCRIBER = """00000051 01 00000000000f4241 60000000 0020 04 40
     45000020 00010000 40117ec4 c0000002 cb007105 13880035 000c2b4a 61626364"""
 OTHER_SENT = """00000029 02 00000000000f4241
     45000020 00010000 3f117dbe c0000208 cb007105 06000035 000c36cc 61626364"""
-OTHER_LEASE = "00000000000f4241 10 20010db8010001000000000000000000 38 c0000208 0600 07ff"
 
 # The first packet with a limit of encapsulations in Destination Options (RFC 2473 4.1.1).
 WITH_LIMIT = """00000059 01 00000000000f4240 60000000 0028 3c 40
@@ -97,155 +72,249 @@ LATE_REPLY, LATE_REPLY_SENT = (text.replace("0f43d0", "13d620") for text in (REP
 
 # A tick at the deadline closes the lease, which is then held for 120 s.
 TICK = "00000009 03 000000000013d620"
-FIRST_CLOSING = "000000000013d620 11 20010db8010000000000000000000000 38 c0000208 0400 05ff"
 # The other subscriber's packet in the hold's last millisecond gets the next block, and at its end the same.
-HELD_PACKET, HELD_SENT, HELD_LEASE = (
-    text.replace("0f4241", "15aadf") for text in (OTHER_SUBSCRIBER, OTHER_SENT, OTHER_LEASE)
-)
+HELD_PACKET, HELD_SENT = (text.replace("0f4241", "15aadf") for text in (OTHER_SUBSCRIBER, OTHER_SENT))
 FREE_PACKET, FREE_SENT = OTHER_SUBSCRIBER.replace("0f4241", "15aae0"), FIRST_SENT.replace("0f4240", "15aae0")
-FREE_LEASE = OTHER_LEASE.replace("0f4241", "15aae0").replace("0600 07ff", "0400 05ff")
 
-# The two subscribers in a report, and the first one's lease while it is open and after it closed.
-SUBSCRIBER = "2001:0db8:0100:0000:0000:0000:0000:0000/56"
-SECOND_SUBSCRIBER = "2001:0db8:0100:0100:0000:0000:0000:0000/56"
-OPEN_LINE = f"lease 192.0.2.8 1024 1535 1000000 open {SUBSCRIBER}"
-CLOSED_LINE = f"lease 192.0.2.8 1024 1535 1000000 1300000 {SUBSCRIBER}"
+# Another remote up to the horizon that the first packet set, 2 s after it, and past it.
+LAST_OTHER, LAST_OTHER_SENT = (text.replace("0f4434", "0f4a10") for text in (OTHER_REMOTE, OTHER_REMOTE_SENT))
+LATE_OTHER, LATE_OTHER_SENT = (text.replace("0f4434", "0f4a11") for text in (OTHER_REMOTE, OTHER_REMOTE_SENT))
+LATE_MESSAGE = message(1002, 2, horizon(1_002_001, 1_004_001))
+# The first packet at its mapping's deadline: the lease closes, and is its subscriber's again a millisecond later.
+LATE_PACKET, LATE_SENT = (text.replace("0f4240", "13d620") for text in (FIRST_PACKET, FIRST_SENT))
+LATE_SENT = LATE_SENT.replace("04000035 000c38cc", "06000035 000c36cc")
+NEXT_BLOCK = FIRST_BLOCK.replace("0400 05ff", "0600 07ff")
+LATE_BOTH = message(
+    1300, 2, horizon(1_300_000, 1_302_000) + blocks(closing(1_300_000, FIRST_BLOCK), at(1_300_000, NEXT_BLOCK))
+)
+NO_RECORDS = message(7, 0, "")
 
 # ---- runs
 
 RUNS = [
-    run_of("one packet", FIRST_PACKET, FIRST_SENT, FIRST_LEASE, summary(1, 1)),
+    run_of("one packet", FIRST_PACKET, FIRST_SENT, FIRST_LOG, summary(1, 1)),
     run_of(
         "another remote gets the same place",
         FIRST_PACKET + OTHER_REMOTE,
         FIRST_SENT + OTHER_REMOTE_SENT,
-        FIRST_LEASE,
+        FIRST_LOG,
         summary(2, 2),
     ),
     run_of(
         "another subscriber gets the next block",
         FIRST_PACKET + OTHER_SUBSCRIBER,
         FIRST_SENT + OTHER_SENT,
-        FIRST_LEASE + OTHER_LEASE,
+        log_of(FIRST_MESSAGE, message(1000, 2, blocks(OTHER_BLOCK))),
         summary(2, 2),
     ),
-    run_of("a limit of encapsulations", WITH_LIMIT, FIRST_SENT, FIRST_LEASE, summary(1, 1)),
-    run_of("no UDP checksum stays none", NO_CHECKSUM, NO_CHECKSUM_SENT, FIRST_LEASE, summary(1, 1)),
-    run_of("a UDP checksum of 0 is sent as ffff", TO_ZERO, TO_ZERO_SENT, FIRST_LEASE, summary(1, 1)),
-    run_of("an input of no bytes", "", "", "", summary(0, 0)),
-    run_of("an outlet starts empty", "", "", "", summary(0, 0), out=FIRST_SENT),
-    run_of("an input cut short", FIRST_PACKET + OTHER_REMOTE[:-8], FIRST_SENT, FIRST_LEASE, ["fault BadInput 0 85"]),
+    run_of("a limit of encapsulations", WITH_LIMIT, FIRST_SENT, FIRST_LOG, summary(1, 1)),
+    run_of("no UDP checksum stays none", NO_CHECKSUM, NO_CHECKSUM_SENT, FIRST_LOG, summary(1, 1)),
+    run_of("a UDP checksum of 0 is sent as ffff", TO_ZERO, TO_ZERO_SENT, FIRST_LOG, summary(1, 1)),
+    run_of("an input of no bytes", "", "", EMPTY_LOG, summary(0, 0)),
+    run_of("an outlet starts empty", "", "", EMPTY_LOG, summary(0, 0), out=FIRST_SENT),
+    run_of("an input cut short", FIRST_PACKET + OTHER_REMOTE[:-8], FIRST_SENT, FIRST_LOG, ["fault BadInput 0 85"]),
     run_of(
         "an input cut in a record's head",
         FIRST_PACKET + OTHER_REMOTE + "00000051 01",
         FIRST_SENT + OTHER_REMOTE_SENT,
-        FIRST_LEASE,
+        FIRST_LOG,
         ["fault BadInput 0 170"],
     ),
     run_of(
         "a record of no kind",
         FIRST_PACKET + TICK.replace("09 03", "09 05") + OTHER_REMOTE,
         FIRST_SENT,
-        FIRST_LEASE,
+        FIRST_LOG,
         ["fault BadInput 0 85"],
     ),
     # replies, and the mapping's end
-    run_of("a reply comes back", FIRST_PACKET + REPLY, FIRST_SENT + REPLY_SENT, FIRST_LEASE, summary(2, 2)),
-    run_of("a reply to no mapping", REPLY, "", "", summary(1, 0, "NoMapping 1")),
+    run_of("a reply comes back", FIRST_PACKET + REPLY, FIRST_SENT + REPLY_SENT, FIRST_LOG, summary(2, 2)),
+    run_of("a reply to no mapping", REPLY, "", EMPTY_LOG, summary(1, 0, "NoMapping 1")),
     run_of(
         "a reply up to the mapping's deadline",
         FIRST_PACKET + REPLY + LAST_REPLY + LATE_REPLY,
         FIRST_SENT + REPLY_SENT + LAST_REPLY_SENT,
-        FIRST_LEASE + FIRST_CLOSING,
+        CLOSED_LOG,
         summary(4, 3, "NoMapping 1"),
     ),
     run_of(
         "a later packet moves the deadline",
         FIRST_PACKET + OTHER_REMOTE + LATE_REPLY,
         FIRST_SENT + OTHER_REMOTE_SENT + LATE_REPLY_SENT,
-        FIRST_LEASE,
+        FIRST_LOG,
         summary(3, 3),
     ),
     run_of(
         "a closed block is held",
         FIRST_PACKET + TICK + HELD_PACKET,
         FIRST_SENT + HELD_SENT,
-        FIRST_LEASE + FIRST_CLOSING + HELD_LEASE,
+        log_of(FIRST_MESSAGE, CLOSING_MESSAGE, HELD_MESSAGE),
         summary(3, 2),
     ),
     run_of(
         "a held block comes free",
         FIRST_PACKET + TICK + FREE_PACKET,
         FIRST_SENT + FREE_SENT,
-        FIRST_LEASE + FIRST_CLOSING + FREE_LEASE,
+        log_of(FIRST_MESSAGE, CLOSING_MESSAGE, FREE_MESSAGE),
         summary(3, 2),
     ),
-    run_of("a change of the configuration", "00000009 04 0000000000000001", "", "", summary(1, 0, "BadChange 1")),
+    run_of(
+        "a change of the configuration", "00000009 04 0000000000000001", "", EMPTY_LOG, summary(1, 0, "BadChange 1")
+    ),
+    # the horizon
+    run_of(
+        "a packet at the horizon",
+        FIRST_PACKET + LAST_OTHER,
+        FIRST_SENT + LAST_OTHER_SENT,
+        FIRST_LOG,
+        summary(2, 2),
+    ),
+    run_of(
+        "a packet past the horizon",
+        FIRST_PACKET + LATE_OTHER,
+        FIRST_SENT + LATE_OTHER_SENT,
+        log_of(FIRST_MESSAGE, LATE_MESSAGE),
+        summary(2, 2),
+    ),
+    run_of(
+        "a closing and an opening past the horizon",
+        FIRST_PACKET + LATE_PACKET,
+        FIRST_SENT + LATE_SENT,
+        log_of(FIRST_MESSAGE, LATE_BOTH),
+        summary(2, 2),
+    ),
+    run_of(
+        "a tick and a refused packet past the horizon",
+        FIRST_PACKET
+        + "00000009 03 00000000000f4e20"
+        + LATE_OTHER.replace("0f4a11", "0f4e21").replace("04 40", "3b 40"),
+        FIRST_SENT,
+        FIRST_LOG,
+        summary(3, 1, "NotTunnel 1"),
+    ),
+    # logs that tell nothing
+    run_of("a gate that isn't open", FIRST_PACKET, FIRST_SENT, FIRST_LOG, summary(1, 1), log=EMPTY_LOG[:-2] + "02"),
+    run_of(
+        "bytes behind the closed gate",
+        FIRST_PACKET,
+        FIRST_SENT,
+        FIRST_LOG + "ee" * 13,
+        summary(1, 1),
+        log=EMPTY_LOG + "ee" * 160,
+    ),
+    run_of("bytes behind no frame", "", "", EMPTY_LOG + "0102", summary(0, 0), log=EMPTY_LOG + "0102"),
+    run_of(
+        "a message of templates alone",
+        FIRST_PACKET,
+        FIRST_SENT,
+        log_of(NO_RECORDS, FIRST_MESSAGE),
+        summary(1, 1),
+        log=log_of(NO_RECORDS),
+    ),
 ]
 
-# ---- queries
+# ---- runs on a log that tells something
 
-BOTH = FIRST_LEASE + FIRST_CLOSING
-LONG_LOG = 1025 * BOTH
-
-
-def query_of(words: str, log: str, status: int, lines: Sequence[str]) -> Case:
-    """A query over this log, which it leaves as it is."""
-    return Case(f"'{words}' over {len(bytes.fromhex(log))} bytes", words.split(" "), {"log": log}, status, lines)
+INPUT = {"config.toml": "", "in0": FIRST_PACKET}
 
 
-QUERIES = [
-    # the lease's first and last port, and both ends of its time; then places and moments beside it
-    *[
-        query_of(f"trace log {place}", BOTH, 0, [f"named {SUBSCRIBER}"])
-        for place in ("192.0.2.8 1024 1000000", "192.0.2.8 1535 1100000", "192.0.2.8 1024 1300000")
-    ],
-    *[
-        query_of(f"trace log 192.0.2.{place}", BOTH, 0, ["unheld"])
-        for place in ("8 1024 999999", "8 1024 1300001", "8 1023 1000000", "8 1536 1000000", "9 1024 1000000")
-    ],
-    query_of("trace log 192.0.2.8 1024 4294967295999", FIRST_LEASE, 0, [f"named {SUBSCRIBER}"]),
-    query_of("trace log 192.0.2.8 1024 1300000", LONG_LOG, 0, [f"named {SUBSCRIBER}"]),
-    query_of("leases log", FIRST_LEASE, 0, [OPEN_LINE]),
-    query_of("leases log", "", 0, []),
-    query_of(
-        "leases log",
-        FIRST_LEASE + OTHER_LEASE + FIRST_CLOSING,
-        0,
-        [CLOSED_LINE, f"lease 192.0.2.8 1536 2047 1000001 open {SECOND_SUBSCRIBER}"],
+def later_run(name: str, records: str, log: str, sent: str, left: str, lines: Sequence[str]) -> Case:
+    """A run of these records on a log that tells something."""
+    return Case(name, RUN, {"config.toml": "", "in0": records, "log": log}, 0, lines, {"log": left, "out": sent})
+
+
+# The first log's lease closes at the horizon, up to which nothing is sent. The same packet after it opens a lease anew.
+RECOVERED = message(1002, 2, blocks(closing(1_002_000, FIRST_BLOCK)))
+SETTLING = FIRST_PACKET.replace("0f4240", "0f4a10")
+AGAIN, AGAIN_SENT = (text.replace("0f4240", "0f4a11") for text in (FIRST_PACKET, FIRST_SENT))
+AGAIN_MESSAGE = message(1002, 3, horizon(1_002_001, 1_004_001) + blocks(at(1_002_001, FIRST_BLOCK)))
+# Another subscriber gets the next block until the first one's hold time is over.
+NEXT, NEXT_SENT = (text.replace("0f4241", "0f4a11") for text in (OTHER_SUBSCRIBER, OTHER_SENT))
+NEXT_MESSAGE = message(1002, 3, horizon(1_002_001, 1_004_001) + blocks(at(1_002_001, OTHER_BLOCK)))
+# A plan closes before a lease does.
+PLANNED = log_of(PLAN_MESSAGE, message(1000, 2, blocks(OTHER_BLOCK)))
+CLOSED_PLAN = message(1002, 3, plan(1_002_000, "") + blocks(closing(1_002_000, OTHER_BLOCK)))
+# A plan that ended a second past the horizon, up to which nothing is sent.
+ENDED_PLAN = PLAN_LOG[:-2] + frames(message(1003, 2, plan(1_003_000, "")))
+PLAN_SETTLING = FIRST_PACKET.replace("0f4240", "0f4df8")
+PAST_PLAN, PAST_PLAN_SENT = (text.replace("0f4240", "0f4df9") for text in (FIRST_PACKET, FIRST_SENT))
+PAST_PLAN_MESSAGE = message(1003, 3, horizon(1_003_001, 1_005_001) + blocks(at(1_003_001, FIRST_BLOCK)))
+# A lease of two blocks' ports, which both are held for another subscriber.
+WIDE_BLOCK = at(1_000_000, OTHER_BLOCK).replace("0600 07ff", "0400 07ff")
+WIDE_LOG = log_of(message(1000, 0, horizon(1_000_000, 1_002_000) + blocks(WIDE_BLOCK)))
+THIRD_SENT = AGAIN_SENT.replace("04000035 000c38cc", "08000035 000c34cc")
+THIRD_BLOCK = at(1_002_001, FIRST_BLOCK).replace("0400 05ff", "0800 09ff")
+THIRD_MESSAGE = message(1002, 3, horizon(1_002_001, 1_004_001) + blocks(THIRD_BLOCK))
+LATER_RUNS = [
+    later_run("nothing to send later", "", FIRST_LOG, "", log_of(FIRST_MESSAGE, RECOVERED), summary(0, 0)),
+    later_run(
+        "the first packet again",
+        SETTLING + AGAIN,
+        FIRST_LOG,
+        AGAIN_SENT,
+        log_of(FIRST_MESSAGE, RECOVERED, AGAIN_MESSAGE),
+        summary(2, 1, "Settling 1"),
     ),
-    query_of(
-        "leases log",
-        FIRST_LEASE + FIRST_CLOSING + FREE_LEASE,
-        0,
-        [CLOSED_LINE, f"lease 192.0.2.8 1024 1535 1420000 open {SECOND_SUBSCRIBER}"],
+    later_run(
+        "another subscriber later",
+        NEXT,
+        FIRST_LOG,
+        NEXT_SENT,
+        log_of(FIRST_MESSAGE, RECOVERED, NEXT_MESSAGE),
+        summary(1, 1),
     ),
-    query_of("leases log", LONG_LOG + FIRST_CLOSING, 7, ["fault LogDamaged 69700"]),
-    # a cut record, a natEvent that is none, a block that opens twice, and one that closes and wasn't open
-    *[
-        query_of(words, log, 7, [f"fault LogDamaged {offset}"])
-        for words in ("leases log", "trace log 192.0.2.8 1024 1000000")
-        for log, offset in (
-            (FIRST_LEASE + FIRST_CLOSING[:-4], 34),
-            (FIRST_LEASE.replace(" 10 ", " 12 ") + OTHER_LEASE, 0),
-            (FIRST_LEASE + FIRST_LEASE, 34),
-            (BOTH + FIRST_CLOSING, 68),
-        )
-    ],
-    # a log that is missing is made, without a byte
-    Case("a trace of a missing log", ("trace", "log", "192.0.2.8", "1024", "0"), {}, 0, ["unheld"], {"log": ""}),
-    Case("the leases of a missing log", ("leases", "log"), {}, 0, [], {"log": ""}),
+    later_run("a log of closed leases", "", CLOSED_LOG, "", CLOSED_LOG, summary(0, 0)),
+    later_run("a plan and a lease", "", PLANNED, "", PLANNED[:-2] + frames(CLOSED_PLAN), summary(0, 0)),
+    later_run(
+        "a plan alone", "", PLAN_LOG, "", PLAN_LOG[:-2] + frames(message(1002, 2, plan(1_002_000, ""))), summary(0, 0)
+    ),
+    later_run(
+        "a plan that ended past the horizon",
+        PLAN_SETTLING + PAST_PLAN,
+        ENDED_PLAN,
+        PAST_PLAN_SENT,
+        ENDED_PLAN[:-2] + frames(PAST_PLAN_MESSAGE),
+        summary(2, 1, "Settling 1"),
+    ),
+    later_run(
+        "a lease of more than one block",
+        AGAIN,
+        WIDE_LOG,
+        THIRD_SENT,
+        WIDE_LOG[:-2] + frames(message(1002, 2, blocks(closing(1_002_000, WIDE_BLOCK))), THIRD_MESSAGE),
+        summary(1, 1),
+    ),
+    later_run(
+        "bytes behind", "", FIRST_LOG + "ff" * 150, "", log_of(FIRST_MESSAGE, RECOVERED) + "ff" * 23, summary(0, 0)
+    ),
 ]
 
 # ---- what is refused
 
-INPUT = {"config.toml": "", "in0": FIRST_PACKET}
-EMPTY_LOG = {"log": "", "out": ""}
+NO_LOG = {"log": "", "out": ""}
 REFUSED = [
-    Case("no text of keys", RUN, {**INPUT, "config.toml": "78"}, 2, ["fault BadConfig text"], EMPTY_LOG),
-    Case("a log that has bytes", RUN, {**INPUT, "log": FIRST_LEASE}, 9, ["fault AlreadyThere 34"], {"out": ""}),
-    Case("a missing input", (*RUN[:4], "nowhere"), INPUT, 4, ["fault ReadFault"], EMPTY_LOG),
-    Case("a missing configuration", ("run", "nowhere", *RUN[2:]), INPUT, 4, ["fault ReadFault"], EMPTY_LOG),
+    Case("making a log", ("init", "log"), {}, 0, [], {"log": EMPTY_LOG}),
+    Case("making a log of a file of no bytes", ("init", "log"), {"log": ""}, 0, [], {"log": EMPTY_LOG}),
+    Case("making a log twice", ("init", "log"), {"log": EMPTY_LOG}, 9, ["fault AlreadyThere 17"]),
+    Case("making a log of a file that is none", ("init", "log"), {"log": "00"}, 9, ["fault AlreadyThere 1"]),
+    Case("no text of keys", RUN, {**INPUT, "config.toml": "78"}, 2, ["fault BadConfig text"], NO_LOG),
+    Case("a log that wasn't made", RUN, INPUT, 7, ["fault LogDamaged 0"], NO_LOG),
+    Case("a missing input", (*RUN[:4], "nowhere"), {**INPUT, "log": EMPTY_LOG}, 4, ["fault ReadFault"], {"out": ""}),
+    Case("a missing input and no log", (*RUN[:4], "nowhere"), INPUT, 7, ["fault LogDamaged 0"], NO_LOG),
+    Case("a missing configuration", ("run", "nowhere", *RUN[2:]), INPUT, 4, ["fault ReadFault"], NO_LOG),
+    # an outlet that is another file of the run: all files keep their bytes
+    *[
+        Case(f"an outlet that is {name}", ("run", "config.toml", "log", name, "in0"), files, 5, ["fault LogFault"])
+        for name in ("log", "in0", "config.toml", "./log")
+        for files in ({**INPUT, "log": FIRST_LOG}, {**INPUT, "log": EMPTY_LOG})
+    ],
+    Case(
+        "an outlet that is a configuration of other bytes",
+        ("run", "in0", "log", "in0", "config.toml"),
+        {**INPUT, "log": EMPTY_LOG},
+        2,
+        ["fault BadConfig text"],
+    ),
     # words that are no command touch no file
     *[
         Case(f"no command: '{words}'", words.split(" "), INPUT, 1, ["fault BadWords"])
@@ -254,6 +323,9 @@ REFUSED = [
             "--help",
             "walk config.toml log out in0",
             "run config.toml log out -",
+            "init",
+            "init log log",
+            "init -log",
             "leases",
             "leases log log",
             "leases -log",
@@ -273,5 +345,6 @@ REFUSED = [
 def cases() -> Iterator[Case]:
     """All cases."""
     yield from RUNS
-    yield from QUERIES
+    yield from LATER_RUNS
     yield from REFUSED
+    yield from log_cases()

@@ -16,11 +16,15 @@ import re
 import subprocess
 import sys
 import tempfile
-from typing import List, Optional, Sequence, Set, Tuple
+from typing import Iterator, List, Optional, Sequence, Set, Tuple
 
+import log_form
 import model
+import random_logs
 import streams
 from cases import cases
+from log_digits import FIRST_LOG, RICH_LOG
+from log_form import EMPTY_LOG, Damaged, Told
 from model import Files
 from refusal_cases import refusals
 from streams import RUN, Session
@@ -91,9 +95,10 @@ class Comparison:
 
     def miss(self) -> None:
         """Counts and prints the lines that no report had, of which the comparison shows nothing."""
-        lines = ["records", "sent", "marks", "named", "unheld", "lease", *(f"drop {cause}" for cause in model.CAUSES)]
-        faults = "BadWords BadConfig BadInput ReadFault LogDamaged AlreadyThere".split()
-        for line in [*lines, *(f"fault {name}" for name in faults)]:
+        lines = "records sent marks named unheld beyond lease plan horizon".split()
+        faults = "BadWords BadConfig BadInput ReadFault LogFault LogDamaged AlreadyThere".split()
+        drops = [f"drop {cause}" for cause in model.CAUSES]
+        for line in [*lines, *drops, *(f"fault {name}" for name in faults)]:
             if line not in self.reports:
                 self.failed += 1
                 print(f"no report has a line '{line}'")
@@ -141,33 +146,58 @@ def check_cases(comparison: Comparison) -> None:
         wanted = model.Answer(case.status, case.report(), case.after())
         comparison.check(case.name, list(case.words), case.before(), wanted)
     for refusal in refusals():
-        files: Files = {"config": b"", "in": b"".join(refusal.records)}
+        files: Files = {"config": b"", "log": EMPTY_LOG, "in": b"".join(refusal.records)}
         wanted = model.Answer(0, refusal.report(), model.answer(RUN, files).files)
         comparison.check(refusal.name, RUN, files, wanted)
 
 
 def compare_run(comparison: Comparison, label: str, rng: random.Random, session: Session, traces: int) -> None:
     """The run of an input, then what its log tells. Few runs are refused for another file than the input."""
-    files: Files = {"config": b"", "in": b"".join(session.pieces)}
+    files: Files = {"config": b"", "log": EMPTY_LOG, "in": b"".join(session.pieces)}
     if rng.random() < 0.5:
-        files.update(log=b"", out=rng.randbytes(rng.randrange(50)))
+        files["out"] = rng.randbytes(rng.randrange(50))
     change = rng.random()
     if change < 0.03:
         files["config"] = rng.choice((b"\n", b"x", b"block_size = 512\n", bytes(65537)))
     elif change < 0.06:
-        files["log"] = streams.random_log(rng)
-    elif change < 0.08:
-        del files[rng.choice(("config", "in"))]
+        files["log"] = random_logs.random_log(rng)
+    elif change < 0.10:
+        files["log"] = rng.choice((b"", EMPTY_LOG[:16], EMPTY_LOG + rng.randbytes(300), log_form.HEADER + b"\2"))
+    elif change < 0.13:
+        del files[rng.choice(("config", "log", "in"))]
     answer = comparison.compare(label, RUN, files, session.pieces if "in" in files else ())
+    if "log" in answer.files:
+        compare_log(comparison, label, rng, answer.files["log"], traces)
+    compare_later_run(comparison, f"{label}, a later run", rng, answer.files.get("log", EMPTY_LOG), traces // 4)
+
+
+def compare_later_run(comparison: Comparison, label: str, rng: random.Random, log: bytes, traces: int) -> None:
+    """The run of another input on a log that a run left, or on one that another program may have written."""
+    if rng.random() < 0.5:
+        log = random_logs.random_log(rng, is_sound=True)
+    session = streams.ordinary(rng, told_of(log))
+    files = {"config": b"", "log": log, "in": b"".join(session.pieces)}
+    answer = comparison.compare(label, RUN, files, session.pieces)
     compare_log(comparison, label, rng, answer.files["log"], traces)
+
+
+def told_of(log: bytes) -> Told:
+    """What a log tells once all that was open has closed; nothing where it is damaged."""
+    try:
+        told = log_form.read_log(log)
+    except Damaged:
+        return Told()
+    for row in told.rows():
+        row.until = told.horizon if row.until is None else row.until
+    return told
 
 
 def compare_log(comparison: Comparison, label: str, rng: random.Random, log: bytes, traces: int) -> None:
     """All leases that a log tells, and who had places at and beside their ends."""
     comparison.compare(label, ["leases", "log"], {"log": log})
-    leases, _ = model.leases_of(log)
+    told = told_of(log)
     for _ in range(traces):
-        comparison.compare(label, streams.trace_words(rng, leases), {"log": log})
+        comparison.compare(label, random_logs.trace_words(rng, told), {"log": log})
 
 
 def compare_cuts(comparison: Comparison, label: str, rng: random.Random) -> None:
@@ -177,13 +207,31 @@ def compare_cuts(comparison: Comparison, label: str, rng: random.Random) -> None
         (session.outbound if rng.random() < 0.7 else session.other)()
     data = b"".join(session.pieces)
     for size in range(min(len(data), 300)):
-        comparison.compare(f"{label}, cut at {size}", RUN, {"config": b"", "in": data[:size]})
+        comparison.compare(f"{label}, cut at {size}", RUN, {"config": b"", "log": EMPTY_LOG, "in": data[:size]})
+
+
+def changed_logs(rng: random.Random, log: bytes) -> Iterator[bytes]:
+    """The log cut at every byte, and with every byte changed: one bit of it, to 0 and to 255."""
+    for at, octet in enumerate(log):
+        yield log[:at]
+        for other in sorted({octet ^ 1 << rng.randrange(8), 0, 255} - {octet}):
+            yield log[:at] + bytes([other]) + log[at + 1 :]
+
+
+def compare_log_bytes(comparison: Comparison, seed: int) -> None:
+    """What two sound logs tell after a change of each of their bytes."""
+    leases, trace = ["leases", "log"], ["trace", "log", "192.0.2.8", "1024", "1000000"]
+    for log in changed_logs(random.Random(seed), bytes.fromhex(FIRST_LOG)):
+        comparison.compare("the first log, changed", leases, {"log": log})
+        comparison.compare("the first log, changed", trace, {"log": log})
+    for log in changed_logs(random.Random(seed), bytes.fromhex(RICH_LOG)):
+        comparison.compare("a log of all sets, changed", leases, {"log": log})
 
 
 def compare_peers(comparison: Comparison, seed: int) -> None:
     """The run of a subscriber with too many peers, and what its log tells."""
     session = streams.many_peers(random.Random(seed))
-    files = {"config": b"", "in": b"".join(session.pieces)}
+    files = {"config": b"", "log": EMPTY_LOG, "in": b"".join(session.pieces)}
     answer = comparison.compare(f"seed {seed}, peers", RUN, files, session.pieces)
     comparison.compare(f"seed {seed}, peers", ["leases", "log"], {"log": answer.files["log"]})
 
@@ -198,10 +246,12 @@ def compare_stream(comparison: Comparison, seed: int, number: int, traces: int) 
     if number % 100 == 40:
         compare_cuts(comparison, label, rng)
     if number % 50 == 45:
-        compare_log(comparison, f"{label}, a long log", rng, streams.long_log(rng), 2)
-    compare_log(comparison, f"{label}, a log", rng, streams.random_log(rng), traces // 4)
+        compare_log(comparison, f"{label}, a long log", rng, random_logs.long_log(rng), 2)
+    for _ in range(2):
+        compare_log(comparison, f"{label}, a log", rng, random_logs.random_log(rng), traces // 4)
     for _ in range(3):
-        files = {"config": b"", "log": rng.choice((b"", streams.random_log(rng))), "in": b"", "out": b"old"}
+        log = rng.choice((b"", EMPTY_LOG, EMPTY_LOG, random_logs.random_log(rng)))
+        files = {"config": b"", "log": log, "in": b"", "out": b"old"}
         comparison.compare(f"{label}, words", streams.random_words(rng), files)
 
 
@@ -210,6 +260,7 @@ def compare_all(comparison: Comparison, seed: int, count: int, traces: int) -> N
     for number in range(count):
         compare_stream(comparison, seed, number, traces)
     compare_peers(comparison, seed)
+    compare_log_bytes(comparison, seed)
     if count >= ALL_KINDS:
         comparison.miss()
 
@@ -220,7 +271,7 @@ def main() -> int:
     parser.add_argument("--seed", type=int, default=1)
     parser.add_argument("--streams", type=int, default=300)
     parser.add_argument("--only", type=int, metavar="NUMBER", help="one stream by its number, to see it again")
-    parser.add_argument("--traces", type=int, default=20, help="queries of each run's log")
+    parser.add_argument("--traces", type=int, default=12, help="queries of each run's log")
     arguments = parser.parse_args()
     if arguments.program is not None and not os.access(arguments.program, os.X_OK):
         parser.error(f"no program at {arguments.program}: run scripts/build.sh")

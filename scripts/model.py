@@ -3,7 +3,7 @@
 
 It is slow and short on purpose. Lists and dictionaries are searched, the checksums of headers are computed anew, and
 whole files are looked at; it shares no code and no order of work with the program. Called with the program's words it
-does what the program does on plain files.
+does what the program does on plain files. The log's bytes stand in log_form.py.
 """
 
 from __future__ import annotations
@@ -16,6 +16,9 @@ from collections import Counter
 from dataclasses import dataclass, field
 from typing import Dict, List, NamedTuple, Optional, Tuple
 
+import log_form
+from log_form import LAST_MOMENT, Batch, Damaged, Lease, Log, LogFull, Place, Prefix, Row, Told
+
 AFTR = 0x2001_0DB8_0000_0000_0000_0000_0000_0001
 AGGREGATE = 0x2001_0DB8_0100_0000_0000_0000_0000_0000
 AGGREGATE_LENGTH = 40
@@ -27,16 +30,14 @@ IDLE = 300_000  # how long a UDP peer is kept (RFC 4787 4.3 asks for two minutes
 HOLD = 120_000  # how long a closed block is kept from other subscribers (RFC 6888 3, REQ-8)
 MAX_PEERS = 16_384
 MAX_CLOSINGS = 512  # at one moment; the pool has 504 blocks, so no run comes to it
+FRAME_CLOSINGS = 1024  # in one frame of a recovery
 SOFTWIRE_MTU = PUBLIC_MTU = 1500
 LAST_INPUT_MOMENT = 4_294_963_695_999
-LAST_MOMENT = 4_294_967_295_999
 
 SOFTWIRE, PUBLIC, TICK, CHANGE = 1, 2, 3, 4
 HOP_BY_HOP, IPV4_IN_IPV6, UDP, FRAGMENT, DESTINATION_OPTIONS = 0, 4, 17, 44, 60
 IPV6_HEADER, IPV4_HEADER, UDP_HEADER, FRAGMENT_HEADER = 40, 20, 8, 8
 MORE_FRAGMENTS, FRAGMENT_OFFSET, DONT_FRAGMENT = 0x2000, 0x1FFF, 0x4000
-OPENING, CLOSING = 16, 17  # natEvent (RFC 8158)
-RECORD = struct.Struct(">QB16sBIHH")
 # The causes that are given today, in the order of the report.
 CAUSES = (
     "Settling BadPacket NotUs NotTunnel UnknownSubscriber Options NoRoute NoProtocol TtlSpent TooBig "
@@ -50,18 +51,11 @@ class Drop(Exception):
     """A packet is dropped; the argument names the cause."""
 
 
-class Place(NamedTuple):
-    """An IPv4 address with a port."""
+class Config(NamedTuple):
+    """The keys that a comparison may set; every other one has its default above."""
 
-    address: int
-    port: int
-
-
-class Prefix(NamedTuple):
-    """An IPv6 prefix."""
-
-    bits: int
-    length: int
+    horizon: int = 2_000  # how far past a packet the log promises names
+    log_limit: int = 1 << 30
 
 
 class Inner(NamedTuple):
@@ -87,26 +81,6 @@ class Mapping:
     inner: Inner
     place: Place
     deadlines: Dict[int, int] = field(default_factory=dict)
-
-
-@dataclass
-class Lease:
-    """A block of ports that a subscriber has or had; open while it has no end. Both ends belong to it."""
-
-    owner: Prefix
-    address: int
-    first: int
-    last: int
-    since: int
-    until: Optional[int] = None
-
-    def holds(self, place: Place, moment: int) -> bool:
-        in_block = self.address == place.address and self.first <= place.port <= self.last
-        return in_block and self.since <= moment and (self.until is None or moment <= self.until)
-
-    def record(self, event: int, moment: int) -> bytes:
-        bits = self.owner.bits.to_bytes(16, "big")
-        return RECORD.pack(moment, event, bits, self.owner.length, self.address, self.first, self.last)
 
 
 # ---- packets
@@ -266,7 +240,8 @@ def frame(kind: int, moment: int, body: bytes) -> bytes:
 
 def records_of(data: bytes) -> Tuple[List[Record], Optional[int]]:
     """The records from the start on, and the offset where none stands before the end, if there is one."""
-    records, at = [], 0
+    records: List[Record] = []
+    at = 0
     while at < len(data):
         if len(data) - at < 13:
             return records, at
@@ -283,20 +258,27 @@ def records_of(data: bytes) -> Tuple[List[Record], Optional[int]]:
 
 
 class Translator:
-    """All that a run keeps, sends, logs and counts."""
+    """All that a run keeps and counts, from what a log tells on."""
 
-    def __init__(self) -> None:
+    def __init__(self, told: Optional[Told] = None, config: Config = Config()) -> None:
+        told = told or Told()
+        self.config = config
         self.clock = 0
+        self.floor = told.end()
+        self.horizon = told.horizon
         self.mappings: Dict[Inner, Mapping] = {}
-        self.leases: List[Lease] = []  # in order of opening
-        self.sent, self.log = bytearray(), bytearray()
+        self.leases = told.leases  # in order of opening
+        self.batch, self.sent = Batch(0), b""
         self.records = self.packets = 0
         self.drops: Counter[str] = Counter()
 
     def treat(self, record: Record) -> None:
+        """Treats a record; what it logs stands in `batch` afterwards, and the packets that it sends in `sent`."""
         self.records += 1
-        if record.moment > self.clock:
-            self.clock = record.moment
+        is_later = record.moment > self.clock
+        self.clock = max(self.clock, record.moment)
+        self.batch, self.sent = Batch(self.clock), b""
+        if is_later:
             self.expire()
         try:
             self.translate(record)
@@ -308,19 +290,18 @@ class Translator:
         for mapping in self.mappings.values():
             mapping.deadlines = {remote: end for remote, end in mapping.deadlines.items() if end > self.clock}
         self.mappings = {inner: mapping for inner, mapping in self.mappings.items() if mapping.deadlines}
-        places = [mapping.place for mapping in self.mappings.values()]
-        used = {(place.address, place.port - place.port % BLOCK_SIZE) for place in places}
-        idle = [lease for lease in self.leases if lease.until is None and (lease.address, lease.first) not in used]
-        for lease in idle[:MAX_CLOSINGS]:
+        used = {block_of(mapping.place) for mapping in self.mappings.values()}
+        still_open = [lease for lease in self.leases if lease.until is None]
+        self.batch.closings = [lease for lease in still_open if (lease.address, lease.first) not in used][:MAX_CLOSINGS]
+        for lease in self.batch.closings:
             lease.until = self.clock
-            self.log += lease.record(CLOSING, self.clock)
 
     def translate(self, record: Record) -> None:
         if record.kind == CHANGE:
             raise Drop("BadChange")
         if record.kind == TICK:
             return
-        if self.clock == 0:
+        if self.clock <= self.floor:
             raise Drop("Settling")
         if record.kind == SOFTWIRE:
             self.outbound(*from_softwire(record.body))
@@ -336,6 +317,8 @@ class Translator:
         elif remote not in mapping.deadlines and self.peers_of(subscriber_of(softwire)) >= MAX_PEERS:
             raise Drop("QuotaPeers")
         mapping.deadlines[remote] = self.clock + IDLE
+        if self.horizon < self.clock:
+            self.horizon = self.batch.horizon = self.clock + self.config.horizon
         self.send(PUBLIC, moved(packet, True, mapping.place))
 
     def inbound(self, packet: bytes) -> None:
@@ -361,13 +344,14 @@ class Translator:
         return self.new_lease(owner)
 
     def new_lease(self, owner: Prefix) -> Place:
-        taken = {(lease.address, lease.first) for lease in self.leases if not self.is_over(lease, owner)}
+        in_the_way = [lease for lease in self.leases if not self.is_over(lease, owner)]
+        taken = {block for lease in in_the_way for block in blocks_under(lease)}
         for address in POOL:
             for first in FIRST_PORTS:
                 if (address, first) not in taken:
                     lease = Lease(owner, address, first, first + BLOCK_SIZE - 1, self.clock)
                     self.leases.append(lease)
-                    self.log += lease.record(OPENING, self.clock)
+                    self.batch.openings.append(lease)
                     return Place(address, first)
         raise Drop("PoolEmpty")
 
@@ -392,38 +376,18 @@ def subscriber_of(softwire: int) -> Prefix:
     return Prefix(softwire >> rest << rest, SUBSCRIBER_LENGTH)
 
 
-# ---- the log
+def block_of(place: Place) -> Tuple[int, int]:
+    """The address and the first port of the block that a place lies in."""
+    return place.address, place.port - (place.port - FIRST_PORTS.start) % BLOCK_SIZE
 
 
-def leases_of(log: bytes) -> Tuple[List[Lease], Optional[int]]:
-    """The leases that a log tells, in order of opening, and the offset of its first damage."""
-    leases: List[Lease] = []
-    for at in range(0, len(log), RECORD.size):
-        if not tells(log[at : at + RECORD.size], leases):
-            return leases, at
-    return leases, None
+def blocks_under(lease: Lease) -> List[Tuple[int, int]]:
+    """The blocks that a lease has a port of: other runs may have logged any ports."""
+    address, first = block_of(Place(lease.address, lease.first))
+    return [(address, port) for port in range(first, lease.last + 1, BLOCK_SIZE)]
 
 
-def tells(record: bytes, leases: List[Lease]) -> bool:
-    """Applies one record to the leases told before it; false where it is damaged."""
-    if len(record) < RECORD.size:
-        return False
-    moment, event, bits, length, address, first, last = RECORD.unpack(record)
-    if moment > LAST_MOMENT:
-        return False
-    owner = Prefix(int.from_bytes(bits, "big"), length)
-    still_open = [lease for lease in leases if lease.until is None and lease.address == address]
-    if event == OPENING:
-        is_prefix = length <= 128 and owner.bits % (1 << (128 - length)) == 0
-        if not is_prefix or first > last or any(lease.first <= last and first <= lease.last for lease in still_open):
-            return False
-        leases.append(Lease(owner, address, first, last, moment))
-        return True
-    for lease in still_open if event == CLOSING else []:
-        if (lease.owner, lease.first, lease.last) == (owner, first, last) and lease.since <= moment:
-            lease.until = moment
-            return True
-    return False
+# ---- what a log tells, in words
 
 
 def prefix_text(prefix: Prefix) -> str:
@@ -435,17 +399,26 @@ def quad_text(address: int) -> str:
     return ".".join(str(octet) for octet in address.to_bytes(4, "big"))
 
 
+def end_text(until: Optional[int]) -> str:
+    return "open" if until is None else str(until)
+
+
 def lease_line(lease: Lease) -> str:
-    until = "open" if lease.until is None else lease.until
     block = f"{quad_text(lease.address)} {lease.first} {lease.last}"
-    return f"lease {block} {lease.since} {until} {prefix_text(lease.owner)}\n"
+    return f"lease {block} {lease.since} {end_text(lease.until)} {prefix_text(lease.owner)}\n"
 
 
-def trace_line(leases: List[Lease], place: Place, moment: int) -> str:
-    for lease in leases:
-        if lease.holds(place, moment):
-            return f"named {prefix_text(lease.owner)}\n"
-    return "unheld\n"
+def told_lines(told: Told) -> str:
+    plans = [f"plan {plan.since} {end_text(plan.until)} {plan.spec.text().decode()}\n" for plan in told.plans]
+    return "".join([*map(lease_line, told.leases), *plans, f"horizon {told.horizon}\n"])
+
+
+def trace_line(told: Told, place: Place, moment: int) -> str:
+    """The first lease that held the place. An open one holds up to the horizon, and nothing is said of a moment past that."""
+    if moment > told.horizon:
+        return f"beyond {told.horizon}\n"
+    owners = [lease.owner for lease in told.leases if lease.holds(place, moment)]
+    return f"named {prefix_text(owners[0])}\n" if owners else "unheld\n"
 
 
 # ---- the commands
@@ -479,62 +452,105 @@ def is_command(words: List[str]) -> bool:
         return False
     if words[0] == "trace" and len(words) == 5:
         return is_quad(words[2]) and is_number(words[3], 65535) and is_number(words[4], LAST_MOMENT)
-    return words[0] == "run" and len(words) == 5 or words[0] == "leases" and len(words) == 2
+    return words[0] == "run" and len(words) == 5 or words[0] in ("init", "leases") and len(words) == 2
 
 
-def answer(words: List[str], before: Files) -> Answer:
+def answer(words: List[str], before: Files, config: Config = Config()) -> Answer:
     """What the program does with these words in a folder of these files."""
     if not is_command(words):
         return Answer(1, "fault BadWords\n", before)
-    files = dict(before)
-    if words[0] == "run":
-        status, report = run(words[1:], files)
-    else:
-        status, report = query(words, files)
+    files, paths = dict(before), paths_of(words)
+    try:
+        if words[0] == "init":
+            status, report = init(paths[0], files)
+        elif words[0] == "run":
+            status, report = run(paths, files, config)
+        else:
+            status, report = query(words, paths[0], files)
+    except Damaged as damage:
+        status, report = 7, f"fault LogDamaged {damage.offset}\n"
+    except LogFull as full:
+        status, report = 8, full.line
     return Answer(status, report, files)
 
 
-def run(paths: List[str], files: Files) -> Tuple[int, str]:
-    config, log, outlet, source = paths
-    files.setdefault(log, b"")
-    files[outlet] = b""
-    if config not in files:
+def init(path: str, files: Files) -> Tuple[int, str]:
+    size = len(files.get(path, b""))
+    if size > 0:
+        return 9, f"fault AlreadyThere {size}\n"
+    files[path] = log_form.EMPTY_LOG
+    return 0, ""
+
+
+def run(paths: List[str], files: Files, config: Config) -> Tuple[int, str]:
+    config_path, log_path, outlet, source = paths
+    is_apart = outlet not in (config_path, log_path, source)
+    if is_apart:
+        files.setdefault(log_path, b"")
+        files[outlet] = b""
+    if config_path not in files:
         return 4, "fault ReadFault\n"
-    if files[config]:
+    if files[config_path]:
         return 2, "fault BadConfig text\n"
-    if files[log]:
-        return 9, f"fault AlreadyThere {len(files[log])}\n"
-    if source not in files:
-        return 4, "fault ReadFault\n"
-    translator = Translator()
-    records, bad_at = records_of(files[source])
+    if not is_apart:
+        return 5, "fault LogFault\n"  # no file is spoilt by an outlet that is one of the others
+    told = log_form.read_log(files[log_path])
+    log, sent = Log(files[log_path], told), bytearray()
+    try:
+        recover(log, told, config)
+        if source not in files:
+            return 4, "fault ReadFault\n"
+        return run_records(files[source], Translator(told, config), log, sent)
+    finally:
+        files[log_path], files[outlet] = bytes(log.data), bytes(sent)
+
+
+def recover(log: Log, told: Told, config: Config) -> None:
+    """Closes what a log tells as open, at its horizon: a plan, then the leases in order of opening."""
+    rows: List[Row] = [*told.open_plans(), *told.open_leases()]
+    for at in range(0, len(rows), FRAME_CLOSINGS):
+        batch = Batch(told.horizon)
+        for row in rows[at : at + FRAME_CLOSINGS]:
+            if isinstance(row, Lease):
+                batch.closings.append(row)
+            else:
+                batch.plan = b""
+        log.commit(batch, config.log_limit)
+    for row in rows:
+        row.until = told.horizon
+
+
+def run_records(data: bytes, translator: Translator, log: Log, sent: bytearray) -> Tuple[int, str]:
+    """Treats each record, logs what it logs, and then sends its packets."""
+    records, bad_at = records_of(data)
     for record in records:
         translator.treat(record)
-    files[log], files[outlet] = bytes(translator.log), bytes(translator.sent)
+        if translator.batch.count() > 0:
+            log.commit(translator.batch, translator.config.log_limit)
+        sent += translator.sent
     if bad_at is not None:
         return 3, f"fault BadInput 0 {bad_at}\n"
     return 0, translator.summary()
 
 
-def query(words: List[str], files: Files) -> Tuple[int, str]:
-    log = files.setdefault(words[1], b"")
-    leases, damage = leases_of(log)
-    if damage is not None:
-        return 7, f"fault LogDamaged {damage}\n"
+def query(words: List[str], path: str, files: Files) -> Tuple[int, str]:
+    if path not in files:
+        return 5, "fault LogFault\n"
+    told = log_form.read_log(files[path])
     if words[0] == "leases":
-        return 0, "".join(map(lease_line, leases))
+        return 0, told_lines(told)
     address = int.from_bytes(bytes(int(octet) for octet in words[2].split(".")), "big")
-    return 0, trace_line(leases, Place(address, int(words[3])), int(words[4]))
-
-
-# ---- on real files
+    return 0, trace_line(told, Place(address, int(words[3])), int(words[4]))
 
 
 def paths_of(words: List[str]) -> List[str]:
-    """The files that a command names."""
+    """The files that a command names, each in one spelling."""
     if not is_command(words):
         return []
-    return words[1:] if words[0] == "run" else words[1:2]
+    return [os.path.normpath(path) for path in (words[1:] if words[0] == "run" else words[1:2])]
+
+
+# ---- on real files
 
 
 def main(words: List[str]) -> int:

@@ -1,13 +1,15 @@
-"""Random inputs, logs and words, the same for the same generator."""
+"""Random inputs and words, the same for the same generator."""
 
 from __future__ import annotations
 
+import os
 import random
 import struct
 from typing import List, NamedTuple, Optional, Sequence
 
 import model
-from model import CHANGE, PUBLIC, SOFTWIRE, TICK, Inner, Lease, Place, Prefix, Translator
+from log_form import Place, Told
+from model import CHANGE, PUBLIC, SOFTWIRE, TICK, Inner, Translator
 from packets import Softwire, Udp, checksum, softwire_of
 from refusal_cases import FROM_OUTSIDE, FROM_SUBSCRIBERS, Fault
 
@@ -127,13 +129,16 @@ def with_sums_to_zero(rng: random.Random, packet: bytearray, is_source: bool, pl
 class Session:
     """An input that grows by records. The model runs along, so that records can aim at what is live or just gone."""
 
-    def __init__(self, rng: random.Random) -> None:
+    def __init__(self, rng: random.Random, told: Optional[Told] = None) -> None:
         self.rng = rng
-        self.state = Translator()
+        self.state = Translator(told)
         self.pieces: List[bytes] = []
         self.softwires = rng.sample(SOFTWIRES, rng.randint(1, 4))
         self.ports = [rng.choice((0, 1, 53, 5000, 5001, 40000, 65535)) for _ in range(rng.randint(1, 5))]
-        self.start = rng.choice((1, 1_000_000, rng.randint(1, 1 << 40), model.LAST_INPUT_MOMENT - 900_000))
+        floor = self.state.floor
+        starts = (1, 1_000_000, rng.randint(1, 1 << 40), model.LAST_INPUT_MOMENT - 900_000)
+        later = (floor - 1, floor, floor + 1, floor + 1, floor + model.HOLD - 1, floor + model.HOLD)
+        self.start = rng.choice(later if floor > 0 else starts)
 
     def add(self, kind: int, body: bytes, moment: Optional[int] = None) -> None:
         moment = self.moment() if moment is None else moment
@@ -146,7 +151,8 @@ class Session:
         clock = self.state.clock
         if clock == 0:
             return self.rng.choice((0, self.start, self.start))
-        edges = [end for mapping in self.state.mappings.values() for end in mapping.deadlines.values()]
+        edges = [self.state.horizon, self.state.floor]
+        edges += [end for mapping in self.state.mappings.values() for end in mapping.deadlines.values()]
         edges += [lease.until + model.HOLD for lease in self.state.leases if lease.until is not None]
         edges = [edge for edge in edges if edge >= clock - 1] or [clock + 1]
         step = self.rng.random()
@@ -255,9 +261,9 @@ class Session:
         self.outbound()
 
 
-def ordinary(rng: random.Random) -> Session:
+def ordinary(rng: random.Random, told: Optional[Told] = None) -> Session:
     """Records of every kind, few subscribers and ports."""
-    session = Session(rng)
+    session = Session(rng, told)
     for _ in range(rng.randint(1, 60)):
         step = rng.random()
         (session.outbound if step < 0.65 else session.reply if step < 0.88 else session.other)()
@@ -351,47 +357,6 @@ def many_peers(rng: random.Random) -> Session:
     return session
 
 
-LOG_PREFIXES = [Prefix(softwire_of(0, 0), 56), Prefix(softwire_of(1, 0), 56), Prefix(0, 0), Prefix((1 << 128) - 1, 128)]
-ODD_PREFIXES = [Prefix(1, 127), Prefix(softwire_of(0, 1), 56), Prefix(0, 129), Prefix(0, 255), Prefix(1, 0)]
-LOG_PORTS = (0, 1, 1023, 1024, 1535, 1536, 2047, 65535)
-LOG_MOMENTS = (0, 1, 1_000_000, 1_000_001, 2_000_000, model.LAST_MOMENT, model.LAST_MOMENT)
-
-
-def random_log(rng: random.Random) -> bytes:
-    """Mostly records that follow from those before them; some damaged, changed or cut."""
-    log = b""
-    leases: List[Lease] = []
-    for _ in range(rng.randint(1, 14)):
-        still_open = [lease for lease in leases if lease.until is None]
-        is_odd = rng.random() < 0.05
-        if still_open and rng.random() < 0.45:
-            closed = rng.choice(still_open)
-            record = closed.record(model.CLOSING, max(0, closed.since + rng.choice((-1, 0, 0, 0, 1, 1, 300_000))))
-        else:
-            ports = sorted(rng.choices(LOG_PORTS, k=2), reverse=rng.random() < 0.05)
-            owner = rng.choice(ODD_PREFIXES if rng.random() < 0.05 else LOG_PREFIXES)
-            opened = Lease(owner, rng.choice(model.POOL), *ports, since=rng.choice(LOG_MOMENTS))
-            event = rng.choice((0, 15, 17, 18)) if is_odd else model.OPENING
-            record = opened.record(event, opened.since + (rng.choice((0, 1, 1 << 62)) if is_odd else 0))
-        if model.tells(record, leases) or rng.random() < 0.25:
-            log += record
-    if rng.random() < 0.15:
-        at = rng.randrange(len(log) + 1)
-        log = log[:at] + rng.randbytes(rng.randrange(2)) + log[at + rng.randrange(2) :]
-    return log
-
-
-def long_log(rng: random.Random) -> bytes:
-    """Some thousand records, which may be damaged at one spot."""
-    opened = Lease(LOG_PREFIXES[0], model.POOL[0], 1024, 1535, 1_000_000)
-    pair = opened.record(model.OPENING, 1_000_000) + opened.record(model.CLOSING, 1_300_000)
-    log = pair * rng.randint(1020, 1030) + opened.record(model.OPENING, 2_000_000) * rng.randrange(2)
-    if rng.random() < 0.5:
-        at = rng.choice((len(log) - 1, rng.randint(len(log) - 600, len(log) - 1), rng.randrange(len(log))))
-        log = log[:at] + rng.choice((b"", b"\xff" + log[at + 1 :]))
-    return log
-
-
 NUMBERS = (
     "0 1024 1535 65535 65536 00065535 00000000000000000000000000001024 1000000 4294967295999 4294967296000 "
     "04294967295999 66560 4294968320 18446744073709551615 18446744073709551616 18446744073709552640 "
@@ -403,13 +368,13 @@ QUADS = (
     "3221225992 192,0,2,8 192.000.2.8 192.0.2.\u0668 ::ffff:192.0.2.8 localhost"
 ).split() + ["", " 192.0.2.8", "192.0.2.8 ", "192.0.2.8\n", "-192.0.2.8"]
 COMMANDS = "run trace leases init serve check drill Run LEASES -h --help".split() + ["", " run", "leases ", "run\n"]
-PATHS = ["config", "log", "in", "out", "log2", "no such", "-", "-log", "--log", "", "log\udcff", "l\u00f6g", "a-b"]
+PATHS = "config log in out log2 - -log --log log\udcff l\u00f6g a-b ./log".split() + ["no such", ""]
 
 
 def random_words(rng: random.Random) -> List[str]:
-    """A command with a word or two changed, left out or added. The paths of a run are different files."""
+    """A command with a word or two changed, left out or added."""
     trace = ["trace", "log", rng.choice(QUADS[:4]), rng.choice(NUMBERS[:4]), rng.choice(NUMBERS[:10])]
-    words = list(rng.choice((trace, trace, ["leases", "log"], RUN)))
+    words = list(rng.choice((trace, trace, ["leases", "log"], ["init", "log"], RUN, RUN)))
     choices = [COMMANDS, PATHS, QUADS, NUMBERS, NUMBERS] if words[0] == "trace" else [COMMANDS] + [PATHS] * 4
     for _ in range(rng.choice((0, 1, 1, 1, 2))):
         at = rng.randrange(len(words))
@@ -419,18 +384,12 @@ def random_words(rng: random.Random) -> List[str]:
         del words[rng.randrange(len(words)) :]
     elif change < 0.16:
         words.insert(rng.randrange(len(words) + 1), rng.choice(PATHS + NUMBERS))
-    same_files = words[:1] == ["run"] and len(set(words)) < len(words)
-    return random_words(rng) if same_files else words
+    return words if words[:1] != ["run"] or len(words) != 5 or is_plain(words[1:]) else random_words(rng)
 
 
-def trace_words(rng: random.Random, leases: Sequence[Lease]) -> List[str]:
-    """A query at or beside the ends of a lease's ports and of its time."""
-    lease = rng.choice(leases) if leases else Lease(LOG_PREFIXES[0], model.POOL[0], 1024, 1535, 1_000_000)
-    until = rng.choice((lease.since, model.LAST_MOMENT)) if lease.until is None else lease.until
-    port = rng.choice((lease.first, lease.last, rng.randint(lease.first, lease.last))) + rng.choice((-1, 0, 0, 0, 1))
-    moment = rng.choice((lease.since, until, rng.randint(lease.since, until))) + rng.choice((-1, 0, 0, 1))
-    address = lease.address + rng.choice((0, 0, 0, 0, 0, 1, -1))
-    port, moment = max(0, min(port, 65535)), max(0, min(moment, model.LAST_MOMENT))
-    return ["trace", "log", model.quad_text(address), str(port), str(moment)]
-
-
+def is_plain(paths: Sequence[str]) -> bool:
+    """Whether it is plain which of these paths name one file: a log isn't read as another file too, and an outlet that
+    is another file is so from the beginning on."""
+    config, log, outlet, source = [os.path.normpath(path) for path in paths]
+    is_there = {config, log, outlet, source} <= {"config", "log", "in", "out"}
+    return log not in (config, source) and (is_there or outlet not in (config, log, source))

@@ -3,8 +3,12 @@ ghost use Rattle.std.specs.Prelude.{◌≡◌, [], ◌≤◌, length, IfOk, OnOk
 ghost use Rattle.plant_io.specs.Causes.{HasCause, counted};
 
 use crate::faults::{count_fault, opened};
+use crate::file_id::FileId;
+use crate::opening::{Outlet, open_log, open_outlet};
+use aftr_base::NoMemory;
+use aftr_engine::LogUse;
 use plant_io::{Failed, Plant};
-use std::fs::{File, OpenOptions};
+use std::fs::File;
 use std::io;
 use std::io::Write;
 use std::os::unix::fs::FileExt;
@@ -19,24 +23,70 @@ pub struct FilePlant {
     out_faults: u64,
 }
 
+/// The paths of a log and an outlet, where the words name them, and what is done with the log.
+#[derive(Clone, Copy, Debug)]
+pub struct PlantPaths<'a> {
+    pub log: Option<&'a str>,
+    pub log_use: LogUse,
+    pub outlet: Option<&'a str>,
+}
+
 impl FilePlant {
-    /// The log at the first path, which is made where it is missing and else keeps its bytes, and the outlet at the second,
-    /// which starts empty. Where one can't be opened every call on it fails; so it does without a path, and then no file is
-    /// touched.
-    pub fn open(rt: &impl Files<File = File>, log: Option<&str>, outlet: Option<&str>) -> Self
+    /// The log at its path, which keeps its bytes, and the outlet at its path, which starts empty. Where one can't be opened every
+    /// call on it fails; so it does without a path, and then no file is touched.
+    ///
+    /// Where the log can't be opened, another command's lock on it among the causes, the outlet keeps its bytes and every call
+    /// on it fails. Where the outlet is the log or one of the other files, every call on both fails, and none of these files is
+    /// emptied or written.
+    pub fn open(
+        rt: &impl Files<File = File>,
+        paths: &PlantPaths<'_>,
+        others: &mut Vec<FileId>,
+    ) -> Result<Self, NoMemory>
+        ensures disk { IfOk result (λ plant. plant.disk_faults ≡ 0) }
+        ensures outlet { IfOk result (λ plant. plant.out_faults ≡ 0) }
+        ensures unnamed_log { IsNone paths.now.log → IfOk result (λ plant. IsNone plant.log) }
+        ensures unnamed_outlet { IsNone paths.now.outlet → IfOk result (λ plant. IsNone plant.outlet) }
+    {
+        let log = match paths.log {
+            Some(path) => open_log(rt, path, paths.log_use).ok(),
+            None => None,
+        };
+        let Some(log) = log else {
+            return Ok(FilePlant::without_files());
+        };
+        match FileId::of(&log) {
+            Ok(Some(id)) => others.push(id)?,
+            Ok(None) => {}
+            Err(_) => return Ok(FilePlant::without_files()),
+        }
+        let outlet = match paths.outlet {
+            Some(path) => open_outlet(rt, path, others),
+            None => Outlet::Missing,
+        };
+        Ok(match outlet {
+            Outlet::Open(outlet) => FilePlant::with_files(Some(log), Some(outlet)),
+            Outlet::Missing => FilePlant::with_files(Some(log), None),
+            Outlet::Shared => FilePlant::without_files(),
+        })
+    }
+
+    // No file: every call fails.
+    fn without_files() -> Self
         ensures disk { result.disk_faults ≡ 0 }
         ensures outlet { result.out_faults ≡ 0 }
-        ensures unnamed_log { IsNone log.entry → IsNone result.log }
-        ensures unnamed_outlet { IsNone outlet.entry → IsNone result.outlet }
+        ensures no_log { IsNone result.log }
+        ensures no_outlet { IsNone result.outlet }
     {
-        let log = match log {
-            Some(path) => open_log(rt, path).ok(),
-            None => None,
-        };
-        let outlet = match outlet {
-            Some(path) => File::create(rt, path).ok(),
-            None => None,
-        };
+        FilePlant::with_files(None, None)
+    }
+
+    fn with_files(log: Option<File>, outlet: Option<File>) -> Self
+        ensures log { result.log ≡ log }
+        ensures outlet { result.outlet ≡ outlet }
+        ensures disk { result.disk_faults ≡ 0 }
+        ensures out { result.out_faults ≡ 0 }
+    {
         FilePlant {
             log,
             outlet,
@@ -105,14 +155,6 @@ impl Plant for FilePlant {
     {
         count_fault(send(&self.outlet, bytes), &mut self.out_faults)
     }
-}
-
-fn open_log(rt: &impl Files<File = File>, path: &str) -> io::Result<File> {
-    OpenOptions::new()
-        .read(true)
-        .write(true)
-        .create(true)
-        .open(rt, path)
 }
 
 fn size_of(file: &Option<File>) -> io::Result<u64>

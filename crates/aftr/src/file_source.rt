@@ -3,6 +3,7 @@ ghost use Rattle.std.specs.Prelude.{◌≡◌, [], ◌≤◌, length, IfOk, OnOk
 ghost use Rattle.plant_io.specs.Causes.{HasCause, counted};
 
 use crate::faults::{count_fault, opened};
+use crate::file_id::FileId;
 use plant_io::{Failed, Source};
 use std::fs::File;
 use std::io;
@@ -28,6 +29,14 @@ impl FileSource {
             None => None,
         };
         FileSource { file, faults: 0 }
+    }
+
+    /// What its file is known by, or `None` where it has none or no regular one.
+    pub fn id(&self) -> io::Result<Option<FileId>> {
+        match &self.file {
+            Some(file) => FileId::of(file),
+            None => Ok(None),
+        }
     }
 }
 

@@ -11,16 +11,19 @@ ghost use Rattle.aftr_engine.specs.engine.Reported.{IsPrinted, PrintsFault};
 
 mod ending;
 mod faults;
+mod file_id;
 mod file_plant;
 mod file_source;
+mod opening;
 mod std_sink;
 #[cfg(test)]
 mod tests;
 
 use aftr_base::{NoMemory, Outcome, Status, Word};
-use aftr_engine::{Paths, aftr, paths_of};
+use aftr_engine::{LogUse, Paths, aftr, log_use_of, paths_of};
 use ending::exit_status;
-use file_plant::FilePlant;
+use file_id::FileId;
+use file_plant::{FilePlant, PlantPaths};
 use file_source::FileSource;
 use plant_io::Sink;
 use std::fs::File;
@@ -75,6 +78,28 @@ fn open_inputs<R: Files<File = File> + AllocGlobal>(
     Ok(inputs)
 }
 
+// What the files are known by that a command reads beside its log.
+fn read_files<R: AllocGlobal>(
+    rt: &R,
+    config: &FileSource,
+    inputs: &[FileSource],
+) -> Result<Option<Vec<FileId>>, NoMemory> {
+    let mut files = Vec::new(rt.alloc());
+    match config.id() {
+        Ok(Some(id)) => files.push(id)?,
+        Ok(None) => {}
+        Err(_) => return Ok(None),
+    }
+    for input in inputs {
+        match input.id() {
+            Ok(Some(id)) => files.push(id)?,
+            Ok(None) => {}
+            Err(_) => return Ok(None),
+        }
+    }
+    Ok(Some(files))
+}
+
 // Makes the call over the files that the words name. Words that are no command name none, and none is touched.
 fn call<R: Files<File = File> + AllocGlobal, S: Sink>(
     rt: &R,
@@ -94,7 +119,16 @@ fn call<R: Files<File = File> + AllocGlobal, S: Sink>(
         None => (None, None, None),
     };
     let mut config = FileSource::open(rt, path_at(words, config));
-    let mut plant = FilePlant::open(rt, path_at(words, log), path_at(words, outlet));
+    let (mut others, log) = match read_files(rt, &config, inputs.as_slice())? {
+        Some(others) => (others, log),
+        None => (Vec::new(rt.alloc()), None),
+    };
+    let paths = PlantPaths {
+        log: path_at(words, log),
+        log_use: log_use_of(words).unwrap_or(LogUse::Reads),
+        outlet: path_at(words, outlet),
+    };
+    let mut plant = FilePlant::open(rt, &paths, &mut others)?;
     Ok(aftr(
         rt.alloc(),
         words,

@@ -1,12 +1,12 @@
 -- What a command has done, from what its parts have done.
-use Rattle.std.proofs.Common.{◌≡◌, ◌≢◌, inl, inr, ℕ, ◌≤◌, true, List, [], ◌++◌, length, refl, sym, ap, ◌∙◌, subst, arith}
-use Rattle.std.specs.Prelude.{Option, Some, unwrap_or}
-use Rattle.std.specs.declared.result.Result.TheVariants.{Ok as Whole}
+use Rattle.std.proofs.Common.{◌≡◌, ◌≢◌, inl, inr, ℕ, ◌≤◌, max, true, List, [], ◌++◌, length, refl, sym, ap, ◌∙◌, subst, arith}
+use Rattle.std.specs.Prelude.{Option, Some, unwrap_or, Result, Ok as Good, Err}
 use Rattle.plant_io.specs.Sink.{GainsPart}
 use Rattle.plant_io.specs.Story.{Story, content, sent, IsSettled}
 use Rattle.plant_io.specs.Uses.{SourceUse, PlantUse, SinkUse}
+use Rattle.disk_journal.specs.Frames.{empty_log}
 use Rattle.aftr_base.specs.Drops.{drop_counts}
-use Rattle.aftr_base.specs.declared.row.LeaseRow.{LeaseRow}
+use Rattle.aftr_base.specs.declared.told.Told.{Told}
 use Rattle.aftr_base.specs.declared.outcome.Status.{Status}
 use Rattle.aftr_base.specs.declared.outcome.Status.TheVariants.{Ok, BadWords, BadConfig, BadInput, ReadFault, LogFault, OutFault}
 use Rattle.aftr_base.specs.declared.outcome.Status.TheVariants.{LogDamaged, LogFull, AlreadyThere, NoMemory}
@@ -16,24 +16,30 @@ use Rattle.cfg_text.specs.declared.config.Config.{Config}
 use Rattle.xlate_core.specs.Run.{Run}
 use Rattle.aftr_engine.specs.declared.tally.Tally.{Tally}
 use Rattle.aftr_engine.specs.declared.engine.Answer.{Answer}
-use Rattle.aftr_engine.specs.declared.engine.Answer.TheVariants.{Summary}
+use Rattle.aftr_engine.specs.declared.engine.Answer.TheVariants.{Nothing, Summary}
 use Rattle.aftr_engine.specs.declared.engine.Ended.{Ended}
 use Rattle.aftr_engine.specs.declared.words.Command.{Command}
-use Rattle.aftr_engine.specs.declared.words.Command.TheVariants.{Run as RunOf}
+use Rattle.aftr_engine.specs.declared.words.Command.TheVariants.{Init, Run as RunOf}
 use Rattle.aftr_engine.specs.link_records.Frames.{frames_of}
-use Rattle.aftr_engine.specs.lease_log.Told.{told_by}
-use Rattle.aftr_engine.specs.nat_events.Spelling.{log_bytes}
+use Rattle.aftr_engine.specs.egress_gate.Logged.{EndsAt, Tells}
 use Rattle.aftr_engine.specs.egress_gate.Output.{output}
-use Rattle.aftr_engine.specs.report.Lines.{fault_line, summary}
-use Rattle.aftr_engine.specs.session.EndToEnd.{output_of, front_run, run_of, summary_of}
+use Rattle.aftr_engine.specs.report.Lines.{fault_line, summary, told_text}
+use Rattle.aftr_engine.specs.session.EndToEnd.{output_of, front_run, run_of, summary_of, told_behind}
 use Rattle.aftr_engine.specs.session.Begun.{StopsFor, IsAtRecordsEnd, TalliesAs}
 use Rattle.aftr_engine.specs.session.Fronts.{HasCome, HasDoneFirst, HasTreatedFirst}
-use Rattle.aftr_engine.specs.engine.Texts.{answer_text, text_of, no_plant}
-use Rattle.aftr_engine.specs.engine.Reported.{IsText, IsReported, IsNoCommand, PrintsFault}
-use Rattle.aftr_engine.specs.engine.Running.{RefusesFor, IsWhole, RanAs, no_source}
+use Rattle.aftr_engine.specs.engine.Texts.{IsListed, answer_text, text_of}
+use Rattle.aftr_engine.specs.engine.Reported.{IsKept, IsText, IsReported, IsNoCommand, PrintsFault}
+use Rattle.aftr_engine.specs.engine.Running.{BeginsFrom, KeepsRoom, LeavesRows, RefusesConfig, RefusesFor, IsWhole, RanAs, no_source}
+use Rattle.lease_log.specs.Log.{Log, log_of}
+use Rattle.recovery.specs.Closings.{recovered}
 use Rattle.aftr_engine.specs.engine.Asking.{AnswersFor, AnsweredAs, answer_to}
-use Rattle.aftr_engine.proofs.Attribution.{names_input}
+use Rattle.aftr_engine.specs.engine.Making.{MakesFor, MadeAs}
 use Rattle.aftr_engine.proofs.RunSteps.{whole_front}
+
+-- what the log tells that a file is
+abbrev told_in : Told → Result Log ℕ → Told
+told_in other (Good log) = log.told
+told_in other (Err offset) = other
 
 -- ---- texts
 
@@ -60,94 +66,91 @@ text_is {IsGood} t a status good = record {
 
 -- ---- a run that was refused
 
--- by its configuration, before the log is looked at
-pub by_config : (config : SourceUse) (plant : PlantUse) (status : Status) → RefusesFor config no_plant status
-    → RefusesFor config plant status
-by_config config plant Ok why = why
-by_config config plant BadWords why = why
-by_config config plant (BadConfig key) why = why
-by_config config plant (BadInput input offset) why = why
-by_config config plant ReadFault why = why
-by_config config plant LogFault why = absurd (omega (arith, why.1))
-by_config config plant OutFault why = why
-by_config config plant (LogDamaged offset) why = why
-by_config config plant (LogFull tail need limit) why = why
-by_config config plant (AlreadyThere size) why = absurd (omega (arith, why.1, why.2 tt))
-by_config config plant NoMemory why = tt
-
--- by its log, once the configuration was found to have no bytes
-by_log : (config : SourceUse) (plant : PlantUse) (status : Status) → (config.tells → config.bytes ≡ []) → RefusesFor no_source plant status
-    → RefusesFor config plant status
-by_log config plant Ok none why = why
-by_log config plant BadWords none why = why
-by_log config plant (BadConfig key) none why = absurd (omega (arith, why.1 tt))
-by_log config plant (BadInput input offset) none why = why
-by_log config plant ReadFault none why = absurd (omega (arith, why))
-by_log config plant LogFault none why = (none, why.1)
-by_log config plant OutFault none why = why
-by_log config plant (LogDamaged offset) none why = why
-by_log config plant (LogFull tail need limit) none why = why
-by_log config plant (AlreadyThere size) none why = (none, why.1, why.2)
-by_log config plant NoMemory none why = tt
+-- by its configuration or its log, it doesn't end well
+never_refused : (c : Config) (config : SourceUse) (plant : PlantUse) → RefusesFor c config plant Ok → ⊥
+never_refused c config plant why = elim why [ inl config ↦ config | inr log ↦ log.1 ]
 
 -- a command that ended so
 abbrev pub EndsBy : (Status → List ℕ → Type 0) → Ended → Type 0
 EndsBy HasDone ended = HasDone ended.status (text_of ended.tally ended.answer ended.status)
 
 pub refused : {c : Config} {config input : SourceUse} {plant : PlantUse} (ended : Ended) {status : Status}
-    → ended.status ≡ status → ended.tally.drops.0 ≡ drop_counts [] → RefusesFor config plant status
-    → (input.tells → input.left ≡ input.bytes) → (plant.tells → plant.after ≡ plant.before)
-    → EndsBy (RanAs c config input plant ended.tally.drops.0) ended
-refused {c} {config} {input} {plant} ended {status} is none why unread same =
-    let reason : RefusesFor config plant ended.status = subst (RefusesFor config plant) (sym is) why in
+    → ended.status ≡ status → ended.tally.drops.0 ≡ drop_counts [] → RefusesFor c config plant status
+    → (input.tells → input.left ≡ input.bytes) → (plant.tells → sent plant.after ≡ sent plant.before)
+    → (plant.tells → LeavesRows plant status) → EndsBy (RanAs c config input plant ended.tally.drops.0) ended
+refused {c} {config} {input} {plant} ended {status} is none why unread unsent rows =
+    let reason : RefusesFor c config plant ended.status = subst (RefusesFor c config plant) (sym is) why in
     record {
-      did = inl (record { reason = reason; unread = unread; same = same; undropped = none });
-      says = text_is ended.tally ended.answer ended.status (λ ok. absurd (subst (RefusesFor config plant) ok reason));
+      did = inl (record {
+        reason = reason;
+        unread = unread;
+        unsent = unsent;
+        rows = λ tells. subst (LeavesRows plant) (sym is) (rows tells);
+        undropped = none;
+      });
+      says = text_is ended.tally ended.answer ended.status
+          (λ ok. absurd (never_refused c config plant (subst (RefusesFor c config plant) ok reason)));
     }
+
+-- a log that keeps its bytes keeps its rows
+pub rows_same : (plant : PlantUse) (status : Status) → content plant.after ≡ content plant.before → LeavesRows plant status
+rows_same plant Ok same = same
+rows_same plant BadWords same = same
+rows_same plant (BadConfig key) same = same
+rows_same plant (BadInput input offset) same = same
+rows_same plant ReadFault same = same
+rows_same plant LogFault same = tt
+rows_same plant OutFault same = same
+rows_same plant (LogDamaged offset) same = same
+rows_same plant (LogFull tail need limit) same = inl same
+rows_same plant (AlreadyThere size) same = same
+rows_same plant NoMemory same = inl same
 
 -- ---- a run that began
 
 pub defaults_accepted : is_accepted defaults ≡ true
 defaults_accepted = refl
 
-whole_by : {c : Config} {input : SourceUse} {plant : PlantUse} {drops : List ℕ} (n : ℕ) → is_accepted c ≡ true
+whole_by : (c : Config) (from : Told) {input : SourceUse} {plant : PlantUse} {drops : List ℕ} (n : ℕ)
+    → (plant.tells → KeepsRoom c.log_limit (content plant.before) (content plant.after))
     → (input.tells → n ≡ length (frames_of input.bytes).events)
-    → (plant.tells → content plant.before ≡ []) → (input.tells → drops ≡ drop_counts (front_run c n input.bytes).drops)
-    → (input.tells → plant.tells → HasTreatedFirst c n input.bytes plant.before plant.after) → IsWhole c input plant drops
-whole_by {c} {input} {plant} n ok all empty counts done =
-    let run_is = λ (reads : input.tells). whole_front c input.bytes n (all reads) in
-    let log_is = λ (reads : input.tells) (tells : plant.tells).
-    (done reads tells).leases ∙ ap (λ (l : List ℕ). l ++ log_bytes (front_run c n input.bytes).log) (empty tells)
-    ∙ ap (λ (r : Run). log_bytes r.log) (run_is reads) in
+    → (input.tells → drops ≡ drop_counts (front_run c from n input.bytes).drops)
+    → (input.tells → plant.tells → HasTreatedFirst c from n input.bytes (sent plant.before) plant.after)
+    → IsWhole c from input plant drops
+whole_by c from {input} {plant} n room all counts done =
+    let run_is = λ (reads : input.tells). whole_front c from input.bytes n (all reads) in
     record {
-      packets = λ reads tells. (done reads tells).packets ∙ ap (λ (r : Run). sent plant.before ++ output r.items) (run_is reads);
-      logged = log_is;
-      told = λ reads tells. ap told_by (log_is reads tells) ∙ (names_input c input.bytes ok).told;
+      packets = λ reads tells.
+          (done reads tells).packets ∙ ap (λ (r : Run). sent plant.before ++ output r.items) (run_is reads);
+      told = λ reads tells.
+          subst (λ (r : Run). Tells (content plant.after) (told_behind from r)) (run_is reads) (done reads tells).tells;
+      room = room;
       counts = λ reads. counts reads ∙ ap (λ (r : Run). drop_counts r.drops) (run_is reads);
     }
 
-whole : {c : Config} {input : SourceUse} {plant : PlantUse} {drops : List ℕ} (status : Status) → is_accepted c ≡ true
-    → (plant.tells → content plant.before ≡ [])
-    → HasCome c input plant drops status → IsAtRecordsEnd status → IsWhole c input plant drops
-whole Ok ok empty came end = whole_by came.treated ok came.records empty came.counts came.done
-whole (BadInput place offset) ok empty came end = whole_by came.treated ok came.records empty came.counts came.done
-whole BadWords ok empty came end = absurd end
-whole (BadConfig key) ok empty came end = absurd end
-whole ReadFault ok empty came end = absurd end
-whole LogFault ok empty came end = absurd end
-whole OutFault ok empty came end = absurd end
-whole (LogDamaged offset) ok empty came end = absurd end
-whole (LogFull tail need limit) ok empty came end = absurd end
-whole (AlreadyThere size) ok empty came end = absurd end
-whole NoMemory ok empty came end = absurd end
+whole : {c : Config} {from : Told} {input : SourceUse} {plant : PlantUse} {drops : List ℕ} (status : Status)
+    → (IsAtRecordsEnd status → plant.tells → KeepsRoom c.log_limit (content plant.before) (content plant.after))
+    → HasCome c from input plant drops status → IsAtRecordsEnd status → IsWhole c from input plant drops
+whole {c} {from} Ok room came end = whole_by c from came.treated (room tt) came.records came.counts came.done
+whole {c} {from} (BadInput place offset) room came end = whole_by c from came.treated (room tt) came.records came.counts came.done
+whole BadWords room came end = absurd end
+whole (BadConfig key) room came end = absurd end
+whole ReadFault room came end = absurd end
+whole LogFault room came end = absurd end
+whole OutFault room came end = absurd end
+whole (LogDamaged offset) room came end = absurd end
+whole (LogFull tail need limit) room came end = absurd end
+whole (AlreadyThere size) room came end = absurd end
+whole NoMemory room came end = absurd end
 
-summary_is : (c : Config) (input : List ℕ) (t : Tally) → TalliesAs c input t → summary t.records t.sent t.drops.0 ≡ summary_of c input
-summary_is c input t k =
+summary_is : (c : Config) (from : Told) (input : List ℕ) (t : Tally) → TalliesAs c from input t
+    → summary t.records t.sent t.drops.0 ≡ summary_of c from input
+summary_is c from input t k =
     ap (λ (n : ℕ). summary n t.sent t.drops.0) k.records
     ∙ ap (λ (n : ℕ). summary (length (frames_of input).events) n t.drops.0) k.sent
-    ∙ ap (λ (ns : List ℕ). summary (length (frames_of input).events) (length (run_of c input).items) ns) k.drops
+    ∙ ap (λ (ns : List ℕ). summary (length (frames_of input).events) (length (run_of c from input).items) ns) k.drops
 
--- the plant as it was before the log's size was asked for
+-- the plant as it was before the log was opened
 abbrev earlier : PlantUse → Story → ℕ → ℕ → PlantUse
 earlier plant story disk outlet = record {
   tells = plant.tells;
@@ -157,67 +160,112 @@ earlier plant story disk outlet = record {
   outlet = record { before = outlet; after = plant.outlet.after };
 }
 
-stops_earlier : (input : SourceUse) (plant : PlantUse) (story : Story) {disk outlet : ℕ} (status : Status) → disk ≤ plant.disk.before
-    → plant.outlet.before ≡ outlet → StopsFor input plant status → StopsFor input (earlier plant story disk outlet) status
-stops_earlier input plant story Ok later same why = why
-stops_earlier input plant story BadWords later same why = why
-stops_earlier input plant story (BadConfig key) later same why = why
-stops_earlier input plant story (BadInput place offset) later same why = why
-stops_earlier input plant story ReadFault later same why = why
-stops_earlier input plant story LogFault later same why = omega (arith, later, why)
-stops_earlier input plant story OutFault later same why = omega (arith, same, why)
-stops_earlier input plant story (LogDamaged offset) later same why = why
-stops_earlier input plant story (LogFull tail need limit) later same why = why
-stops_earlier input plant story (AlreadyThere size) later same why = why
-stops_earlier input plant story NoMemory later same why = tt
+stops_earlier : (c : Config) (input : SourceUse) (plant : PlantUse) (story : Story) {disk outlet : ℕ} (status : Status)
+    → disk ≤ plant.disk.before
+    → plant.outlet.before ≡ outlet → StopsFor c input plant status → StopsFor c input (earlier plant story disk outlet) status
+stops_earlier c input plant story Ok later same why = why
+stops_earlier c input plant story BadWords later same why = why
+stops_earlier c input plant story (BadConfig key) later same why = why
+stops_earlier c input plant story (BadInput place offset) later same why = why
+stops_earlier c input plant story ReadFault later same why = why
+stops_earlier c input plant story LogFault later same why = omega (arith, later, why)
+stops_earlier c input plant story OutFault later same why = omega (arith, same, why)
+stops_earlier c input plant story (LogDamaged offset) later same why = why
+stops_earlier c input plant story (LogFull tail need limit) later same why = why
+stops_earlier c input plant story (AlreadyThere size) later same why = why
+stops_earlier c input plant story NoMemory later same why = tt
 
-pub ran : {c : Config} {input : SourceUse} {plant : PlantUse} (story : Story) {disk outlet : ℕ} (t : Tally) {status : Status}
-    → is_accepted c ≡ true
-    → (plant.tells → plant.before ≡ story) → disk ≤ plant.disk.before → plant.outlet.before ≡ outlet
-    → (plant.tells → content story ≡ []) → StopsFor input plant status → HasCome c input plant t.drops.0 status
-    → (input.tells → IsAtRecordsEnd status → TalliesAs c input.bytes t)
-    → (input.tells → plant.tells → GainsPart (output_of c input.bytes) (sent plant.before) (sent plant.after))
-    → (plant.tells → status ≢ LogFault → IsSettled plant.after)
+-- what a run has done since its log was opened, to this tail, from what it told
+pub record HasEnded (c : Config) (from : Told) (opened : ℕ) (input : SourceUse) (plant : PlantUse) (t : Tally) (status : Status) : Type 0 where
+  pub reason : StopsFor c input plant status
+  pub came : HasCome c from input plant t.drops.0 status
+  pub room : (now : Told) (tail : ℕ) → plant.tells → IsAtRecordsEnd status → EndsAt (content plant.after) now tail
+      → tail ≤ max opened c.log_limit
+  pub counts : input.tells → IsAtRecordsEnd status → TalliesAs c from input.bytes t
+  pub part : input.tells → plant.tells → GainsPart (output_of c from input.bytes) (sent plant.before) (sent plant.after)
+  pub settled : plant.tells → status ≢ LogFault → IsSettled plant.after
+
+-- how the log was opened: its rows were closed, within the limit, and nothing was sent
+pub record HasOpened (c : Config) (before now : Story) (from : Told) (opened : ℕ) : Type 0 where
+  pub onto : BeginsFrom (content before) from
+  pub room : (was : Log) → log_of (content before) ≡ Good was → opened ≤ max was.tail c.log_limit
+  pub unsent : sent now ≡ sent before
+
+only_told : (file : List ℕ) {t u : Told} → Tells file t → Tells file u → t ≡ u
+only_told file {t} one other = ap (told_in t) (sym one.1 ∙ other.1)
+
+pub ran : {c : Config} {from : Told} {opened : ℕ} {input : SourceUse} {plant : PlantUse} (story : Story) {disk outlet : ℕ} (t : Tally)
+    {status : Status} → (plant.tells → HasOpened c story plant.before from opened)
+    → disk ≤ plant.disk.before → plant.outlet.before ≡ outlet → HasEnded c from opened input plant t status
     → RanAs c no_source input (earlier plant story disk outlet) t.drops.0 status (text_of t Summary status)
-ran {c} {input} {plant} story {disk} {outlet} t {status} ok same later none empty why came counts part settled =
+ran {c} {from} {opened} {input} {plant} story {disk} {outlet} t {status} opening later none ended =
     let here : PlantUse = earlier plant story disk outlet in
-    let come : HasCome c input here t.drops.0 status = record {
+    let came = ended.came in
+    let come : HasCome c from input here t.drops.0 status = record {
       treated = came.treated;
       records = came.records;
       counts = came.counts;
       done = λ reads tells.
-          subst (λ (s : Story). HasDoneFirst c came.treated input.bytes s plant.after status) (same tells) (came.done reads tells);
+          subst (λ (past : List ℕ). HasDoneFirst c from came.treated input.bytes past plant.after status) (opening tells).unsent
+          (came.done reads tells);
     } in
     record {
       did = inr (record {
         unset = λ _. refl;
-        empty = empty;
-        reason = stops_earlier input plant story status later none why;
-        whole = whole status ok empty come;
+        from = from;
+        onto = λ tells. (opening tells).onto;
+        reason = stops_earlier c input plant story status later none ended.reason;
+        whole = whole status (λ end tells was now before after.
+            omega (arith, ended.room now.told now.tail tells end after, (opening tells).room was before)) come;
         came = come;
-        part = λ reads tells. subst (λ (s : Story). GainsPart (output_of c input.bytes) (sent s) (sent plant.after)) (same tells)
-            (part reads tells);
-        settled = settled;
+        part = λ reads tells. subst (λ (past : List ℕ). GainsPart (output_of c from input.bytes) past (sent plant.after))
+            (opening tells).unsent (ended.part reads tells);
+        settled = ended.settled;
       });
       says = text_is t Summary status (λ good.
-          let all = λ (reads : input.tells). counts reads (subst IsAtRecordsEnd (sym good) tt) in
+          let all = λ (reads : input.tells). ended.counts reads (subst IsAtRecordsEnd (sym good) tt) in
           record {
             records = t.records;
             packets = t.sent;
             says = refl;
-            whole = λ reads. summary_is c input.bytes t (all reads);
+            whole = λ was reads tells is.
+                let onto = (opening tells).onto in
+                summary_is c from input.bytes t (all reads)
+                ∙ ap (λ (x : Told). summary_of c x input.bytes) onto.closed
+                ∙ ap (λ (x : Told). summary_of c (recovered x) input.bytes) (only_told (content story) onto.tells is);
           });
     }
+
+-- where no configuration was looked at, none refuses, but for want of memory
+no_config : (config : SourceUse) (status : Status) → RefusesConfig no_source status → RefusesConfig config status
+no_config config Ok why = why
+no_config config BadWords why = why
+no_config config (BadConfig key) why = absurd (omega (arith, why.1 tt))
+no_config config (BadInput input offset) why = why
+no_config config ReadFault why = absurd (omega (arith, why))
+no_config config LogFault why = why
+no_config config OutFault why = why
+no_config config (LogDamaged offset) why = why
+no_config config (LogFull tail need limit) why = why
+no_config config (AlreadyThere size) why = why
+no_config config NoMemory why = tt
 
 -- the same with a configuration that has no bytes
 pub unset : {c : Config} {config input : SourceUse} {plant : PlantUse} {drops : List ℕ} {status : Status} {text : List ℕ}
     → (config.tells → config.bytes ≡ []) → RanAs c no_source input plant drops status text → RanAs c config input plant drops status text
 unset {config = config} {plant = plant} {status = status} none is = record {
   did = elim is.did [
-    | inl r ↦ inl (record { reason = by_log config plant status none r.reason; unread = r.unread; same = r.same; undropped = r.undropped })
+    | inl r ↦ inl (record {
+      reason = elim r.reason [ inl why ↦ inl (no_config config status why) | inr log ↦ inr (none, log.1) ];
+      unread = r.unread;
+      unsent = r.unsent;
+      rows = r.rows;
+      undropped = r.undropped;
+    })
     | inr r ↦ inr (record {
       unset = none;
-      empty = r.empty;
+      from = r.from;
+      onto = r.onto;
       reason = r.reason;
       whole = r.whole;
       came = r.came;
@@ -231,18 +279,21 @@ unset {config = config} {plant = plant} {status = status} none is = record {
 -- ---- a query
 
 -- the answer is the one of the command
-pub answers_by : {command : Command} (other : Command) {answer answer' : List LeaseRow → List ℕ} → command ≡ other
+pub answers_by : {command : Command} (other : Command) {answer answer' : Told → List ℕ} → command ≡ other
     → answer_to command ≡ Some answer
     → answer_to other ≡ Some answer' → answer' ≡ answer
 answers_by other {answer} same one two =
-    ap (λ (o : Option (List LeaseRow → List ℕ)). unwrap_or o answer) (sym two ∙ sym (ap answer_to same) ∙ one)
+    ap (λ (o : Option (Told → List ℕ)). unwrap_or o answer) (sym two ∙ sym (ap answer_to same) ∙ one)
 
-pub run_answers_none : {command : Command} {answer : List LeaseRow → List ℕ} → command ≡ RunOf → answer_to command ≡ Some answer → ⊥
+pub run_answers_none : {command : Command} {answer : Told → List ℕ} → command ≡ RunOf → answer_to command ≡ Some answer → ⊥
 run_answers_none same one = absurd (cc (sym (ap answer_to same) ∙ one))
 
-pub unanswered : {answer : List LeaseRow → List ℕ} {plant : PlantUse} (ended : Ended) {status : Status}
+pub init_answers_none : {command : Command} {answer : Told → List ℕ} → command ≡ Init → answer_to command ≡ Some answer → ⊥
+init_answers_none same one = absurd (cc (sym (ap answer_to same) ∙ one))
+
+pub unanswered : {answer : Told → List ℕ} {plant : PlantUse} (ended : Ended) {status : Status}
     → ended.status ≡ status → ended.tally.drops.0 ≡ drop_counts [] → status ≢ Ok → AnswersFor plant status
-    → (plant.tells → plant.after ≡ plant.before) → EndsBy (AnsweredAs answer plant ended.tally.drops.0) ended
+    → (plant.tells → IsKept plant) → EndsBy (AnsweredAs answer plant ended.tally.drops.0) ended
 unanswered {answer} {plant} ended is none not_ok why same = record {
   reason = subst (AnswersFor plant) (sym is) why;
   same = same;
@@ -250,20 +301,43 @@ unanswered {answer} {plant} ended is none not_ok why same = record {
   says = text_is ended.tally ended.answer ended.status (λ ok. absurd (not_ok (sym is ∙ ok)));
 }
 
-pub answered : {answer : List LeaseRow → List ℕ} {plant : PlantUse} (ended : Ended) {leases : List LeaseRow} {a : Answer}
-    → ended.status ≡ Ok → ended.answer ≡ a → ended.tally.drops.0 ≡ drop_counts [] → answer_text ended.tally a ≡ answer leases
-    → (plant.tells → told_by (content plant.before) ≡ Whole leases)
-    → (plant.tells → plant.after ≡ plant.before) → EndsBy (AnsweredAs answer plant ended.tally.drops.0) ended
-answered {answer} {plant} ended {leases} is gives none says told same = record {
+pub answered : {answer : Told → List ℕ} {plant : PlantUse} (ended : Ended) {told : Told}
+    → ended.status ≡ Ok → ended.tally.drops.0 ≡ drop_counts [] → answer_text ended.tally ended.answer ≡ answer told
+    → (plant.tells → Tells (content plant.before) told)
+    → (plant.tells → IsKept plant) → EndsBy (AnsweredAs answer plant ended.tally.drops.0) ended
+answered {answer} {plant} ended {told} is none says tells same = record {
   reason = subst (AnswersFor plant) (sym is) tt;
   same = same;
   undropped = none;
-  says = text_is ended.tally ended.answer ended.status (λ _. record {
-    leases = leases;
-    told = told;
-    says = ap (answer_text ended.tally) gives ∙ says;
-  });
+  says = text_is ended.tally ended.answer ended.status (λ _. record { told = told; tells = tells; says = says });
 }
+
+-- making a log, by how it ended
+pub made : {plant : PlantUse} (ended : Ended) → MakesFor plant ended.status → ended.tally.drops.0 ≡ drop_counts []
+    → (ended.status ≡ Ok → ended.answer ≡ Nothing)
+    → (plant.tells → ended.status ≡ Ok → content plant.after ≡ empty_log)
+    → (plant.tells → ended.status ≡ Ok → IsSettled plant.after)
+    → ((size : ℕ) → plant.tells → ended.status ≡ AlreadyThere size → IsKept plant)
+    → (plant.tells → sent plant.after ≡ sent plant.before) → EndsBy (MadeAs plant ended.tally.drops.0) ended
+made ended why none nothing is settled same unsent = record {
+  reason = why;
+  made = is;
+  settled = settled;
+  same = same;
+  unsent = unsent;
+  undropped = none;
+  says = text_is ended.tally ended.answer ended.status (λ ok. ap (answer_text ended.tally) (nothing ok));
+}
+
+-- a list, or no memory for it
+pub listed : {answer : Told → List ℕ} {plant : PlantUse} (ended : Ended) {told : Told} → IsListed told ended
+    → ended.tally.drops.0 ≡ drop_counts [] → told_text told ≡ answer told
+    → (plant.tells → Tells (content plant.before) told)
+    → (plant.tells → IsKept plant) → EndsBy (AnsweredAs answer plant ended.tally.drops.0) ended
+listed ended is none says tells same = elim is [
+  | inl all ↦ answered ended all.0 none (all.1 ∙ says) tells same
+  | inr refused ↦ unanswered ended refused none (λ ok. absurd (cc ok)) tt same
+]
 
 -- ---- every command
 
@@ -293,7 +367,13 @@ faulted {report = report} {status = status} r says = record {
 
 pub ran_says : {c : Config} {config input : SourceUse} {plant : PlantUse} {drops : List ℕ} (text : List ℕ)
     → RanAs c config input plant drops BadWords text → ⊥
-ran_says text is = elim is.did [ inl r ↦ r.reason | inr r ↦ r.reason ]
+ran_says text is = elim is.did [
+  | inl r ↦ elim r.reason [ inl config ↦ config | inr log ↦ log.1 ]
+  | inr r ↦ r.reason
+]
+
+pub made_says : {plant : PlantUse} {drops : List ℕ} (text : List ℕ) → MadeAs plant drops BadWords text → ⊥
+made_says text is = is.reason
 
 pub words_say : {drops : List ℕ} {status : Status} {text : List ℕ} → IsNoCommand drops status text → IsText (λ l. ⊥) status text
 words_say is = record {

@@ -2,8 +2,9 @@ mod ReportRows
 mod TextRows
 mod WindowSteps
 mod WorkedRows
-pub mod AppendStops
+pub mod Attributed
 pub mod Attribution
+pub mod Begins
 pub mod Endings
 pub mod Firsts
 pub mod FrameMoments
@@ -11,16 +12,14 @@ pub mod FrameSteps
 pub mod FrontSteps
 pub mod GateStops
 pub mod Groups
-pub mod LeasesApart
 pub mod Lines
-pub mod LogReads
-pub mod LogsTold
-pub mod Records
-pub mod RecordsRead
+pub mod LogStops
+pub mod Logging
+pub mod NamesApart
+pub mod Passing
 pub mod RunSteps
 pub mod RunStops
 pub mod Sending
 pub mod Spelled
-pub mod ToldSteps
 pub mod WordParts
 pub mod Writes

@@ -6,7 +6,8 @@ use Rattle.std.proofs.lemmas.Grind.{flat_map-append}
 use Rattle.std.proofs.lemmas.List.{take_more, take-append-drop, map-append}
 use Rattle.aftr_base.specs.declared.event.DropCause.{DropCause}
 use Rattle.aftr_base.specs.declared.row.LeaseRow.{LeaseRow}
-use Rattle.aftr_engine.specs.report.Lines.{line, drop_line, drop_lines, lease_line, leases_text}
+use Rattle.aftr_base.specs.declared.row.PlanRow.{PlanRow}
+use Rattle.aftr_engine.specs.report.Lines.{line, drop_line, drop_lines, lease_line, lease_lines, plan_line, plan_lines}
 
 -- one more word
 join_push : (byte : ℕ) (word : List ℕ) (words : List (List ℕ)) (last : List ℕ)
@@ -49,18 +50,18 @@ no_lease = record {
 
 -- one more line of a lease, and the lines behind it
 pub leases_next : (leases : List LeaseRow) (k : ℕ) → k < length leases
-    → leases_text (take (k + 1) leases) ≡ leases_text (take k leases) ++ lease_line (get_or leases k no_lease)
+    → lease_lines (take (k + 1) leases) ≡ lease_lines (take k leases) ++ lease_line (get_or leases k no_lease)
 leases_next leases k inside =
-    ap (λ (ls : List LeaseRow). leases_text ls) (take_more leases k no_lease inside)
+    ap (λ (ls : List LeaseRow). lease_lines ls) (take_more leases k no_lease inside)
     ∙ flat_map-append lease_line (take k leases) (get_or leases k no_lease ∷ [])
-    ∙ ap (λ (l : List ℕ). leases_text (take k leases) ++ l) (append-nil (lease_line (get_or leases k no_lease)))
+    ∙ ap (λ (l : List ℕ). lease_lines (take k leases) ++ l) (append-nil (lease_line (get_or leases k no_lease)))
 
 pub leases_split : (leases : List LeaseRow) (k : ℕ) → k < length leases
-    → (leases_text (take k leases) ++ lease_line (get_or leases k no_lease)) ++ leases_text (drop (k + 1) leases) ≡ leases_text leases
+    → (lease_lines (take k leases) ++ lease_line (get_or leases k no_lease)) ++ lease_lines (drop (k + 1) leases) ≡ lease_lines leases
 leases_split leases k inside =
-    ap (λ (l : List ℕ). l ++ leases_text (drop (k + 1) leases)) (sym (leases_next leases k inside))
+    ap (λ (l : List ℕ). l ++ lease_lines (drop (k + 1) leases)) (sym (leases_next leases k inside))
     ∙ sym (flat_map-append lease_line (take (k + 1) leases) (drop (k + 1) leases))
-    ∙ ap (λ (ls : List LeaseRow). leases_text ls) (take-append-drop (k + 1) leases)
+    ∙ ap (λ (ls : List LeaseRow). lease_lines ls) (take-append-drop (k + 1) leases)
 
 -- ---- lines in the making
 
@@ -78,3 +79,17 @@ pub lease_built : (ip first last since until prefix : List ℕ)
     → (((((((codes "lease " ++ ip) ++ 32 ∷ first) ++ 32 ∷ last) ++ 32 ∷ since) ++ 32 ∷ until) ++ (32 ∷ [])) ++ prefix) ++ 10 ∷ []
     ≡ line (codes "lease" ∷ ip ∷ first ∷ last ∷ since ∷ until ∷ prefix ∷ [])
 lease_built ip first last since until prefix = simp append_assoc
+
+-- a plan's line behind what was there, part by part
+pub plan_built : (old since until text : List ℕ)
+    → ((old ++ (codes "plan " ++ since ++ 32 ∷ (until ++ 32 ∷ []))) ++ text) ++ 10 ∷ []
+    ≡ old ++ line (codes "plan" ∷ since ∷ until ∷ text ∷ [])
+plan_built old since until text = simp append_assoc
+
+-- what stands behind the last plan of a list
+pub plans_next : (plans : List PlanRow) (k : ℕ) (last : PlanRow) → k < length plans
+    → plan_lines (take (k + 1) plans) ≡ plan_lines (take k plans) ++ plan_line (get_or plans k last)
+plans_next plans k last inside =
+    ap (λ (ps : List PlanRow). plan_lines ps) (take_more plans k last inside)
+    ∙ flat_map-append plan_line (take k plans) (get_or plans k last ∷ [])
+    ∙ ap (λ (l : List ℕ). plan_lines (take k plans) ++ l) (append-nil (plan_line (get_or plans k last)))

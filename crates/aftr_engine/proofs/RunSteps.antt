@@ -1,49 +1,58 @@
 -- How a run under way goes on and ends.
-use Rattle.std.proofs.Common.{◌≡◌, ℕ, ◌+◌, ◌≤◌, ◌<◌, ◌^◌, List, [], ◌∷◌, ◌++◌, length, take, refl, sym, ap, ◌∙◌, subst, arith}
+use Rattle.std.proofs.Common.{◌≡◌, ℕ, ◌+◌, ◌≤◌, ◌<◌, ◌^◌, max, List, [], ◌∷◌, ◌++◌, length, take, refl, sym, ap, ◌∙◌, subst, arith}
 use Rattle.std.proofs.Common.{append_assoc, length-append}
 use Rattle.std.specs.Prelude.{None, option_to_list}
 use Rattle.std.proofs.lemmas.Grind.{flat_map-append}
 use Rattle.std.proofs.lemmas.List.{append-nil, take_at, take_all, take-append-drop}
+use Rattle.std.proofs.lemmas.List.Elements.{All-append, All-cons, All-nil}
 use Rattle.plant_io.specs.Sink.{GainsPart}
+use Rattle.aftr_base.specs.Limits.{moment_limit}
 use Rattle.aftr_base.specs.declared.event.Event.{Event}
+use Rattle.aftr_base.specs.declared.told.Told.{Told}
 use Rattle.aftr_base.specs.Drops.{drop_counts}
 use Rattle.aftr_base.proofs.Counts.{counts_fit}
 use Rattle.cfg_text.specs.declared.config.Config.{Config}
 use Rattle.xlate_core.specs.State.{State, Step}
 use Rattle.xlate_core.specs.Step.{step, log_of}
-use Rattle.xlate_core.specs.Run.{run, start}
-use Rattle.xlate_core.proofs.Runs.{run_push, run_append, short_log, short_run}
+use Rattle.xlate_core.specs.Run.{run, start, told_of}
+use Rattle.xlate_core.proofs.Runs.{run_push, run_append, short_run}
+use Rattle.xlate_core.proofs.ValidStates.{run_config}
 use Rattle.aftr_engine.specs.declared.link_records.Next.TheVariants.{Got}
 use Rattle.aftr_engine.specs.declared.tally.Tally.{Tally}
 use Rattle.aftr_engine.specs.link_records.Frames.{Input, Stop, AtEnd, BadAt, stop_at, frames_of, frames_from, frame_len, event_at}
 use Rattle.aftr_engine.specs.link_records.Frames.{input_limit, with_event}
 use Rattle.aftr_engine.specs.link_records.Reader.{Reads}
-use Rattle.aftr_engine.specs.nat_events.Spelling.{event_record, log_bytes}
-use Rattle.aftr_engine.specs.egress_gate.Counting.{HasCounted, AreFew, IsZero}
-use Rattle.aftr_engine.specs.egress_gate.Output.{output, item_bytes, logged_by}
-use Rattle.aftr_engine.specs.session.EndToEnd.{run_of, output_of, front_run}
-use Rattle.aftr_engine.specs.session.Progress.{TalliesRun, HasSent, HasRead, with_events}
+use Rattle.aftr_engine.specs.egress_gate.Counting.{HasCounted, AreFew, IsZero, Passed}
+use Rattle.aftr_engine.specs.egress_gate.Logged.{EndsAt, told_next}
+use Rattle.aftr_engine.specs.egress_gate.Output.{output, item_bytes}
+use Rattle.aftr_engine.specs.session.EndToEnd.{run_of, output_of, front_run, told_behind}
+use Rattle.aftr_engine.specs.session.Progress.{TalliesRun, HasRead, with_events}
 use Rattle.aftr_engine.specs.session.UnderWay.{Standing, IsUnderWay}
 use Rattle.aftr_engine.proofs.FrameSteps.{no_record, record_alone}
-use Rattle.aftr_engine.proofs.Records.{length_log}
 use Rattle.aftr_engine.proofs.Sending.{gained_all}
 use Rattle.aftr_engine.proofs.Writes.{part_of_first, part_of_second}
 
 -- ---- what one record more sends and logs
 
-pub output_on : (c : Config) (seen : List Event) (e : Event) {s : State} → s ≡ (run (start c) seen).state
-    → output (run (start c) (seen ++ e ∷ [])).items ≡ output (run (start c) seen).items ++ output (step s e).items
-output_on c seen e {s} here =
-    let before = run (start c) seen in
-    ap output (run_push (start c) seen e).items ∙ flat_map-append item_bytes before.items (step before.state e).items
+pub output_on : (c : Config) (told : Told) (seen : List Event) (e : Event) {s : State} → s ≡ (run (start c told) seen).state
+    → output (run (start c told) (seen ++ e ∷ [])).items ≡ output (run (start c told) seen).items ++ output (step s e).items
+output_on c told seen e {s} here =
+    let before = run (start c told) seen in
+    ap output (run_push (start c told) seen e).items ∙ flat_map-append item_bytes before.items (step before.state e).items
     ∙ ap (λ (x : State). output before.items ++ output (step x e).items) (sym here)
 
-pub logged_on : (c : Config) (seen : List Event) (e : Event) {s : State} → s ≡ (run (start c) seen).state
-    → log_bytes (run (start c) (seen ++ e ∷ [])).log ≡ log_bytes (run (start c) seen).log ++ logged_by (step s e)
-logged_on c seen e {s} here =
-    let before = run (start c) seen in
-    ap log_bytes (run_push (start c) seen e).log ∙ flat_map-append event_record before.log (log_of (step before.state e))
-    ∙ ap (λ (x : State). log_bytes before.log ++ logged_by (step x e)) (sym here)
+pub logged_on : (c : Config) (told : Told) (seen : List Event) (e : Event) {s : State} → s ≡ (run (start c told) seen).state
+    → told_behind told (run (start c told) (seen ++ e ∷ [])) ≡ told_next (told.count + length (run (start c told) seen).log) (step s e)
+logged_on c told seen e {s} here =
+    let before = run (start c told) seen in
+    let more = run_push (start c told) seen e in
+    let longer : length (run (start c told) (seen ++ e ∷ [])).log ≡ length before.log + length (log_of (step before.state e)) =
+    ap length more.log ∙ length-append before.log (log_of (step before.state e)) in
+    let counted : told.count + length (run (start c told) (seen ++ e ∷ [])).log
+    ≡ (told.count + length before.log) + length (log_of (step before.state e)) = omega (arith, longer) in
+    ap (λ (x : State). told_of x (told.count + length (run (start c told) (seen ++ e ∷ [])).log)) more.state
+    ∙ ap (told_of (step before.state e).state) counted
+    ∙ ap (λ (x : State). told_next (told.count + length before.log) (step x e)) (sym here)
 
 -- ---- the bytes that were read
 
@@ -77,56 +86,68 @@ front_seen {input} {left} {offset} {seen} read =
     ∙ ap (λ (i : Input). take (length seen) i.events) (sym (whole_read read))
 
 -- so what they came to is what the first of the input come to
-pub front_is : (c : Config) {input left : List ℕ} {offset : ℕ} {seen : List Event} → HasRead seen input offset left
-    → run (start c) seen ≡ front_run c (length seen) input
-front_is c read = ap (run (start c)) (front_seen read)
+pub front_is : (c : Config) (told : Told) {input left : List ℕ} {offset : ℕ} {seen : List Event} → HasRead seen input offset left
+    → run (start c told) seen ≡ front_run c told (length seen) input
+front_is c told read = ap (run (start c told)) (front_seen read)
 
 -- and with one more
-pub front_next : (c : Config) {input left left' : List ℕ} {offset offset' : ℕ} {seen : List Event} {e : Event}
+pub front_next : (c : Config) (told : Told) {input left left' : List ℕ} {offset offset' : ℕ} {seen : List Event} {e : Event}
     → HasRead seen input offset left → Reads offset left offset' left' (Got e)
-    → run (start c) (seen ++ e ∷ []) ≡ front_run c (length seen + 1) input
-front_next c {input} {seen = seen} {e = e} read got =
-    front_is c (read_on read got) ∙ ap (λ (n : ℕ). front_run c n input) (length-append seen (e ∷ []))
+    → run (start c told) (seen ++ e ∷ []) ≡ front_run c told (length seen + 1) input
+front_next c told {input} {seen = seen} {e = e} read got =
+    front_is c told (read_on read got) ∙ ap (λ (n : ℕ). front_run c told n input) (length-append seen (e ∷ []))
 
 -- ---- at the start
 
-pub begun : {c : Config} {I P : Type 0} {input past : List ℕ} {w : Standing} {s : State} {t : Tally}
-    → w.left ≡ input → w.offset ≡ 0 → s ≡ start c → w.size ≡ 0 → IsZero t → (P → w.sent ≡ past) → (P → w.log ≡ [])
-    → IsUnderWay c I P input past w s t
-begun {past = past} all first here none zero same empty = record {
+-- a run of no records comes to what the log told
+pub record HasStarted (c : Config) (told : Told) (s : State) (p : Passed) : Type 0 where
+  pub state : s ≡ start c told
+  pub count : p.count ≡ told.count
+  pub counts : IsZero p.tally
+
+pub begun : {c : Config} {told : Told} {I P : Type 0} {input past : List ℕ} {w : Standing} {s : State} {p : Passed}
+    → w.left ≡ input → w.offset ≡ 0 → HasStarted c told s p → told_behind told (run (start c told) []) ≡ told
+    → (P → w.sent ≡ past) → (P → EndsAt w.log told w.tail)
+    → IsUnderWay c told w.tail I P input past w s p
+begun {c} {told} {past = past} {w = w} all first here none same tells = record {
   seen = [];
-  reaches = here;
-  counts = record { records = zero.records; sent = zero.sent; drops = zero.drops };
-  read = λ tells. record { past = []; whole = sym all; next = λ tail. ap (λ (n : ℕ). frames_from n tail) (sym first) };
-  done = λ tells. record { packets = same tells ∙ sym (append-nil past); leases = empty tells };
-  stands = λ tells. none ∙ ap length (sym (empty tells));
+  timely = All-nil (λ (e : Event). e.at.0 ≤ moment_limit);
+  reaches = here.state;
+  counts = record { records = here.counts.records; sent = here.counts.sent; drops = here.counts.drops };
+  logged = omega (arith, here.count);
+  read = λ reads. record { past = []; whole = sym all; next = λ tail. ap (λ (n : ℕ). frames_from n tail) (sym first) };
+  done = λ is. record {
+    packets = same is ∙ sym (append-nil past);
+    tells = subst (λ (t : Told). EndsAt w.log t w.tail) (sym none) (tells is);
+  };
+  room = omega arith;
   few = omega arith;
-  small = omega (arith, none);
   within = omega (arith, first);
 }
 
 -- ---- one record more
 
 -- one more record was read and passed the gate
-pub record HasPassed (I P : Type 0) (w w' : Standing) (s s' : State) (t t' : Tally) (e : Event) : Type 0 where
+pub record HasPassed (I P : Type 0) (limit : ℕ) (w w' : Standing) (s s' : State) (p p' : Passed) (e : Event) : Type 0 where
   pub read : I → Reads w.offset w.left w'.offset w'.left (Got e)
+  pub early : e.at.0 ≤ moment_limit
   pub far : w.offset + 13 ≤ w'.offset
   pub within : w'.offset ≤ input_limit
   pub state : s' ≡ (step s e).state
-  pub counts : HasCounted (step s e) t t'
+  pub counts : HasCounted (step s e) p.tally p'.tally
+  pub logged : p'.count ≡ p.count + length (log_of (step s e))
   pub sent : P → w'.sent ≡ w.sent ++ output (step s e).items
-  pub log : P → w'.log ≡ w.log ++ logged_by (step s e)
-  pub size : w'.size ≡ w.size + length (logged_by (step s e))
-  pub stands : P → w'.size ≡ length w'.log
+  pub tells : P → EndsAt w'.log (told_next p.count (step s e)) w'.tail
+  pub room : w'.tail ≤ max w.tail limit
 
-tallied_on : (c : Config) (seen : List Event) (e : Event) {s : State} {t t' : Tally} → s ≡ (run (start c) seen).state
-    → TalliesRun (run (start c) seen) (length seen) t → HasCounted (step s e) t t'
-    → TalliesRun (run (start c) (seen ++ e ∷ [])) (length (seen ++ e ∷ [])) t'
-tallied_on c seen e {s} {t} {t'} here before more =
-    let past = run (start c) seen in
-    let next = run_push (start c) seen e in
+tallied_on : (c : Config) (told : Told) (seen : List Event) (e : Event) {s : State} {t t' : Tally} → s ≡ (run (start c told) seen).state
+    → TalliesRun (run (start c told) seen) (length seen) t → HasCounted (step s e) t t'
+    → TalliesRun (run (start c told) (seen ++ e ∷ [])) (length (seen ++ e ∷ [])) t'
+tallied_on c told seen e {s} {t} {t'} here before more =
+    let past = run (start c told) seen in
+    let next = run_push (start c told) seen e in
     let same : step s e ≡ step past.state e = ap (λ (x : State). step x e) here in
-    let items : length (run (start c) (seen ++ e ∷ [])).items ≡ length past.items + length (step s e).items =
+    let items : length (run (start c told) (seen ++ e ∷ [])).items ≡ length past.items + length (step s e).items =
     ap length next.items ∙ length-append past.items (step past.state e).items
     ∙ ap (λ (x : Step). length past.items + length x.items) (sym same) in
     record {
@@ -136,60 +157,87 @@ tallied_on c seen e {s} {t} {t'} here before more =
           ∙ ap (λ (x : Step). drop_counts (past.drops ++ option_to_list x.drop)) same ∙ ap drop_counts (sym next.drops);
     }
 
-sent_on : (c : Config) (seen : List Event) (e : Event) {s : State} {past now now' log log' : List ℕ} → s ≡ (run (start c) seen).state
-    → HasSent (run (start c) seen) past now log → now' ≡ now ++ output (step s e).items → log' ≡ log ++ logged_by (step s e)
-    → HasSent (run (start c) (seen ++ e ∷ [])) past now' log'
-sent_on c seen e {s} {past} here before sent logged =
-    let front = output (run (start c) seen).items in
-    record {
-      packets = sent ∙ ap (λ (l : List ℕ). l ++ output (step s e).items) before.packets
-          ∙ append_assoc past front (output (step s e).items) ∙ ap (λ (l : List ℕ). past ++ l) (sym (output_on c seen e here));
-      leases = logged ∙ ap (λ (l : List ℕ). l ++ logged_by (step s e)) before.leases ∙ sym (logged_on c seen e here);
-    }
+-- the log's events so far, and one record's more
+logged_length : (c : Config) (told : Told) (seen : List Event) (e : Event) {s : State} → s ≡ (run (start c told) seen).state
+    → length (run (start c told) (seen ++ e ∷ [])).log ≡ length (run (start c told) seen).log + length (log_of (step s e))
+logged_length c told seen e {s} here =
+    let before = run (start c told) seen in
+    ap length (run_push (start c told) seen e).log ∙ length-append before.log (log_of (step before.state e))
+    ∙ ap (λ (x : State). length before.log + length (log_of (step x e))) (sym here)
 
-module _ {c : Config} {I P : Type 0} {input past : List ℕ} {w : Standing} {s : State} {t : Tally}
-    (way : IsUnderWay c I P input past w s t) where
-  pub onward : {w' : Standing} {s' : State} {t' : Tally} {e : Event} → HasPassed I P w w' s s' t t' e → IsUnderWay c I P input past w' s' t'
-  onward {w'} {s'} {t'} {e} passed =
+module _ {c : Config} {told : Told} {began : ℕ} {I P : Type 0} {input past : List ℕ} {w : Standing} {s : State} {p : Passed}
+    (way : IsUnderWay c told began I P input past w s p) where
+  -- what the log tells
+  pub told_now : told_of s p.count ≡ told_behind told (run (start c told) way.seen)
+  told_now = ap (λ (x : State). told_of x p.count) way.reaches ∙ ap (told_of (run (start c told) way.seen).state) way.logged
+
+  -- and with one record more
+  pub told_on : (e : Event) → told_behind told (run (start c told) (way.seen ++ e ∷ [])) ≡ told_next p.count (step s e)
+  told_on e =
+      logged_on c told way.seen e way.reaches ∙ ap (λ (n : ℕ). told_next n (step s e)) (sym way.logged)
+
+  pub onward : {w' : Standing} {s' : State} {p' : Passed} {e : Event} → HasPassed I P c.log_limit w w' s s' p p' e
+      → IsUnderWay c told began I P input past w' s' p'
+  onward {w'} {s'} {p'} {e} passed =
       let longer = length-append way.seen (e ∷ []) in
+      let more = logged_length c told way.seen e way.reaches in
+      let front = output (run (start c told) way.seen).items in
       record {
         seen = way.seen ++ e ∷ [];
-        reaches = passed.state ∙ ap (λ (x : State). (step x e).state) way.reaches ∙ sym (run_push (start c) way.seen e).state;
-        counts = tallied_on c way.seen e way.reaches way.counts passed.counts;
+        timely = All-append (λ (x : Event). x.at.0 ≤ moment_limit) way.seen (e ∷ []) way.timely
+            (All-cons (λ (x : Event). x.at.0 ≤ moment_limit) e [] passed.early (All-nil (λ (x : Event). x.at.0 ≤ moment_limit)));
+        reaches = passed.state ∙ ap (λ (x : State). (step x e).state) way.reaches ∙ sym (run_push (start c told) way.seen e).state;
+        counts = tallied_on c told way.seen e way.reaches way.counts passed.counts;
+        logged = omega (arith, passed.logged, way.logged, more);
         read = λ tells. read_on (way.read tells) (passed.read tells);
-        done = λ tells. sent_on c way.seen e way.reaches (way.done tells) (passed.sent tells) (passed.log tells);
-        stands = passed.stands;
+        done = λ tells. record {
+          packets = passed.sent tells ∙ ap (λ (l : List ℕ). l ++ output (step s e).items) (way.done tells).packets
+              ∙ append_assoc past front (output (step s e).items)
+              ∙ ap (λ (l : List ℕ). past ++ l) (sym (output_on c told way.seen e way.reaches));
+          tells = subst (λ (t : Told). EndsAt w'.log t w'.tail) (sym (told_on e)) (passed.tells tells);
+        };
+        room = omega (arith, way.room, passed.room);
         few = omega (arith, longer, way.few, passed.far);
-        small = omega (arith, longer, way.small, passed.size, length_log (log_of (step s e)), short_log s e);
         within = passed.within;
       }
 
   -- what the gate asks for
-  pub are_few : AreFew t
+  pub are_few : AreFew p.tally
   are_few =
-      let short = short_run (start c) way.seen in
-      let drops = (run (start c) way.seen).drops in
+      let short = short_run (start c told) way.seen in
+      let drops = (run (start c told) way.seen).drops in
       record {
         records = omega (arith, way.counts.records, way.few, way.within);
         sent = omega (arith, way.counts.sent, short.items, way.few, way.within);
-        drops = counts_fit t.drops.0 drops way.counts.drops (omega (arith, short.drops, way.few, way.within));
+        drops = counts_fit p.tally.drops.0 drops way.counts.drops (omega (arith, short.drops, way.few, way.within));
       }
 
-  pub has_room : w.size < 2 ^ 62
-  has_room = omega (arith, way.small, way.few, way.within)
+  -- the log tells what the rows and the horizon are
+  pub ends_now : P → EndsAt w.log (told_of s p.count) w.tail
+  ends_now tells = subst (λ (t : Told). EndsAt w.log t w.tail) (sym told_now) (way.done tells).tells
+
+  -- the configuration is that of the start
+  pub config_stays : s.config ≡ c
+  config_stays = ap (λ (x : State). x.config) way.reaches ∙ run_config (start c told) way.seen
+
+  pub room_kept : {tail : ℕ} → tail ≤ max w.tail s.config.log_limit → tail ≤ max w.tail c.log_limit
+  room_kept {tail} le = subst (λ (x : Config). tail ≤ max w.tail x.log_limit) config_stays le
+
+  pub few_logged : told.count < 2 ^ 62 → p.count < 2 ^ 63
+  few_logged few = omega (arith, few, way.logged, (short_run (start c told) way.seen).log, way.few, way.within)
 
   -- the whole output begins with what was sent
-  output_split : I → (rest : List ℕ) × (output_of c input ≡ output (run (start c) way.seen).items ++ rest)
+  output_split : I → (rest : List ℕ) × (output_of c told input ≡ output (run (start c told) way.seen).items ++ rest)
   output_split reads =
       let rest = (frames_from w.offset w.left).events in
-      let before = run (start c) way.seen in
+      let before = run (start c told) way.seen in
       let after = run before.state rest in (
         output after.items,
-        ap (λ (i : Input). output (run (start c) i.events).items) (whole_read (way.read reads))
-            ∙ ap output (run_append (start c) way.seen rest).items ∙ flat_map-append item_bytes before.items after.items,
+        ap (λ (i : Input). output (run (start c told) i.events).items) (whole_read (way.read reads))
+            ∙ ap output (run_append (start c told) way.seen rest).items ∙ flat_map-append item_bytes before.items after.items,
       )
 
-  pub way_sent : I → P → GainsPart (output_of c input) past w.sent
+  pub way_sent : I → P → GainsPart (output_of c told input) past w.sent
   way_sent reads tells =
       let split = output_split reads in
       subst (λ (l : List ℕ). GainsPart l past w.sent) (sym split.1)
@@ -197,15 +245,15 @@ module _ {c : Config} {I P : Type 0} {input past : List ℕ} {w : Standing} {s :
 
   -- a part of what one record more sends is a part of the whole
   pub way_within : {left' now' : List ℕ} {offset' : ℕ} {e : Event} → I → P → Reads w.offset w.left offset' left' (Got e)
-      → GainsPart (output (step s e).items) w.sent now' → GainsPart (output_of c input) past now'
+      → GainsPart (output (step s e).items) w.sent now' → GainsPart (output_of c told input) past now'
   way_within {left'} {now'} {offset'} {e} reads tells got part =
       let rest = (frames_from offset' left').events in
-      let before = run (start c) (way.seen ++ e ∷ []) in
+      let before = run (start c told) (way.seen ++ e ∷ []) in
       let after = run before.state rest in
-      let split : output_of c input ≡ (output (run (start c) way.seen).items ++ output (step s e).items) ++ output after.items =
-      ap (λ (i : Input). output (run (start c) i.events).items) (whole_read (read_on (way.read reads) got))
-      ∙ ap output (run_append (start c) (way.seen ++ e ∷ []) rest).items ∙ flat_map-append item_bytes before.items after.items
-      ∙ ap (λ (l : List ℕ). l ++ output after.items) (output_on c way.seen e way.reaches) in
+      let split : output_of c told input ≡ (output (run (start c told) way.seen).items ++ output (step s e).items) ++ output after.items =
+      ap (λ (i : Input). output (run (start c told) i.events).items) (whole_read (read_on (way.read reads) got))
+      ∙ ap output (run_append (start c told) (way.seen ++ e ∷ []) rest).items ∙ flat_map-append item_bytes before.items after.items
+      ∙ ap (λ (l : List ℕ). l ++ output after.items) (output_on c told way.seen e way.reaches) in
       subst (λ (l : List ℕ). GainsPart l past now') (sym split)
       (part_of_first _ _ past now' (part_of_second _ _ past w.sent now' (way.done tells).packets part))
 
@@ -230,5 +278,5 @@ at_bad left offset none some =
     no_record offset left none ∙ ap (λ (s : Stop). let i : Input = record { events = []; stop = s } in i) (bad_stop left offset some)
 
 -- the run over as many records as there are
-pub whole_front : (c : Config) (input : List ℕ) (n : ℕ) → n ≡ length (frames_of input).events → front_run c n input ≡ run_of c input
-whole_front c input n all = ap (run (start c)) (take_all n (frames_of input).events (omega (arith, all)))
+pub whole_front : (c : Config) (told : Told) (input : List ℕ) (n : ℕ) → n ≡ length (frames_of input).events → front_run c told n input ≡ run_of c told input
+whole_front c told input n all = ap (run (start c told)) (take_all n (frames_of input).events (omega (arith, all)))

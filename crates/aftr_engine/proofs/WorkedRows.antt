@@ -1,11 +1,13 @@
 -- The definitions, computed on a worked packet: one datagram, its translation, its record, and what they tell.
 use Rattle.std.proofs.Common.{◌≡◌, ℕ, List, [], ◌∷◌, ◌++◌, refl}
-use Rattle.std.specs.Prelude.{Option, Some, None, Ok, Err, flat_map, length}
+use Rattle.std.specs.Prelude.{Option, Some, flat_map, length, true}
 use Rattle.std.specs.Int.{bytes_high_first}
 use Rattle.aftr_base.specs.Bytes.{be16, be32, be64, be128}
 use Rattle.aftr_base.specs.Plan.{prefix6}
+use Rattle.aftr_base.specs.Told.{nothing_told}
 use Rattle.aftr_base.specs.Value.{ip4, moment}
 use Rattle.aftr_base.specs.declared.event.DropCause.TheVariants.{Settling, NoMapping}
+use Rattle.aftr_base.specs.declared.event.LogEvent.TheVariants.{Block, Horizon}
 use Rattle.aftr_base.specs.declared.row.LeaseRow.{LeaseRow}
 use Rattle.aftr_base.specs.declared.value.Moment.{Moment}
 use Rattle.aftr_base.specs.declared.value.Subscriber.{Subscriber}
@@ -13,23 +15,19 @@ use Rattle.cfg_text.specs.Defaults.{defaults}
 use Rattle.wire_ip6.specs.Chain.{chain_within}
 use Rattle.xlate_core.specs.Run.{Run, run, start}
 use Rattle.xlate_core.specs.declared.step_out.Item.{Item}
-use Rattle.aftr_engine.specs.lease_log.Told.{told_by}
 use Rattle.aftr_engine.specs.link_records.Frames.{BadAt, frames_of, record_bytes}
-use Rattle.aftr_engine.specs.nat_events.Spelling.{log_bytes}
-use Rattle.aftr_engine.specs.trace_query.Names.{names_of}
+use Rattle.aftr_engine.specs.session.EndToEnd.{told_behind}
+use Rattle.trace_query.specs.Names.{names_of}
 
 -- this many bytes, written as one number
 abbrev hex : ℕ → ℕ → List ℕ
 hex len n = bytes_high_first len n
 
 abbrev run_of : List ℕ → Run
-run_of input = run (start defaults) (frames_of input).events
+run_of input = run (start defaults nothing_told) (frames_of input).events
 
 abbrev sent : List ℕ → List ℕ
 sent input = flat_map (λ (i : Item). record_bytes i.side i.at.0 i.bytes) (run_of input).items
-
-abbrev logged : List ℕ → List ℕ
-logged input = log_bytes (run_of input).log
 
 -- ---- out
 
@@ -49,7 +47,10 @@ one_packet : sent frame ≡ translated_frame
 unfolding be16 be32 be64 be128 chain_within
 one_packet = refl
 
-one_record : logged frame ≡ hex 34 0x00000000000f42401020010db801000000000000000000000038c0000208040005ff
+-- the horizon goes two seconds past the packet's moment, and the block opens
+one_record : (run_of frame).log
+    ≡ Horizon (moment 1000000) (moment 1002000)
+    ∷ Block true record { 0 = prefix6 0x20010db8010000000000000000000000 56 } (ip4 0xc0000208) 1024 1535 (moment 1000000) ∷ []
 unfolding be16 be32 be64 be128 chain_within
 one_record = refl
 
@@ -96,7 +97,7 @@ unfolding be16 be32 be64 be128 chain_within
 in_time = refl
 
 -- at the deadline the mapping goes, and its lease closes
-too_late : ((run_of (frame ++ reply 1300000)).drops ≡ NoMapping ∷ []) × (length (logged (frame ++ reply 1300000)) ≡ 68)
+too_late : ((run_of (frame ++ reply 1300000)).drops ≡ NoMapping ∷ []) × (length (run_of (frame ++ reply 1300000)).log ≡ 3)
 unfolding be16 be32 be64 be128 chain_within
 too_late = (refl, refl)
 
@@ -108,16 +109,11 @@ subscriber_a = record { 0 = prefix6 0x20010db8010000000000000000000000 56 }
 abbrev lease : Option Moment → LeaseRow
 lease until = record { owner = subscriber_a; addr = ip4 0xc0000208; first = 1024; last = 1535; since = moment 1000000; until = until }
 
-told : told_by (logged (frame ++ reply 1300000)) ≡ Ok (lease (Some (moment 1300000)) ∷ [])
+told : told_behind nothing_told (run_of (frame ++ reply 1300000))
+    ≡ record { leases = lease (Some (moment 1300000)) ∷ []; plans = []; horizon = moment 1002000; count = 3 }
 unfolding be16 be32 be64 be128 chain_within
 told = refl
 
-cut_record : told_by (hex 33 0x00000000000f42401020010db801000000000000000000000038c000020804000500) ≡ Err 0
-cut_record = refl
-
-named : names_of (run_of frame).state.leases (ip4 0xc0000208) 1024 1000000 ≡ subscriber_a ∷ []
+named : names_of (told_behind nothing_told (run_of frame)) (ip4 0xc0000208) 1024 1000000 ≡ subscriber_a ∷ []
 unfolding be16 be32 be64 be128 chain_within
 named = refl
-
-not_held : names_of (lease None ∷ []) (ip4 0xc0000208) 1536 1000000 ≡ []
-not_held = refl

@@ -1,5 +1,5 @@
 -- Writes in a row to a sink.
-use Rattle.std.proofs.Common.{◌≡◌, ℕ, ◌+◌, min, Result, Ok, Err, IsErr, List, [], ◌++◌, length, take, sym, ap, ◌∙◌, append_assoc}
+use Rattle.std.proofs.Common.{◌≡◌, ℕ, ◌+◌, min, Result, Ok, Err, IsErr, List, [], ◌++◌, length, take, sym, ap, subst, ◌∙◌, append_assoc}
 use Rattle.std.proofs.Common.{append-nil, arith}
 use Rattle.std.proofs.lemmas.List.{take-append-le, take_min}
 use Rattle.std.proofs.Math.Seq.{take-append-add}
@@ -37,6 +37,11 @@ first_failed a b {u} (Err e) is one = record {
   part = λ told. part_of_first a b u.past u.now (one.part told);
   cause = record { later = one.cause.later; failed = one.cause.failed };
 }
+
+-- the first of three pieces failed
+pub first_of_three : {T E F U : Type 0} (a b d : List ℕ) {u : SinkUse} {e : F} (r : Result T E) → IsErr r
+    → Writes {T = U} a u (Err e) → Writes (a ++ b ++ d) u r
+first_of_three a b d {u} r is one = subst (λ (text : List ℕ). Writes text u r) (sym (append_assoc a b d)) (first_failed a (b ++ d) r is one)
 
 -- all of a text was written
 abbrev pub HasWritten : List ℕ → SinkUse → Type 0

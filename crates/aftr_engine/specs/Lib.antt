@@ -1,9 +1,6 @@
 -- The definitions, one folder for each module, lowest first.
 pub mod words
 pub mod link_records
-pub mod nat_events
-pub mod lease_log
-pub mod trace_query
 pub mod report
 pub mod egress_gate
 pub mod session

@@ -1,4 +1,5 @@
+pub mod Asking
+pub mod Making
 pub mod Reported
 pub mod Running
-pub mod Asking
 pub mod Texts

@@ -1,5 +1,7 @@
 pub mod EndToEnd
 pub mod Stops
+pub mod Senders
+pub mod Attributed
 pub mod Fronts
 pub mod Progress
 pub mod Begun

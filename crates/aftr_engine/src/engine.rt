@@ -1,52 +1,60 @@
 //! The program's one call, over any objects of the outside.
-ghost use Rattle.std.specs.Prelude.{◌≡◌, ◌≢◌, ◌≤◌, true, [], List, ℕ, length, IfOk, IfErr, OnOk, Some, None};
-ghost use Rattle.std.specs.declared.result.Result.TheVariants.{Ok as Whole};
+ghost use Rattle.std.specs.Prelude.{◌≡◌, ◌≢◌, ◌≤◌, ◌+◌, true, [], List, ℕ, length, IfOk, IfErr, IsTrue, OnOk, Some, None, ◌↔◌};
 ghost use Rattle.plant_io.specs.Stops.{StopsLeave};
-ghost use Rattle.plant_io.specs.Story.{content, sent};
+ghost use Rattle.plant_io.specs.Story.{content, sent, IsImage, IsSettled};
+ghost use Rattle.disk_journal.specs.Attach.{AttachLeaves};
 ghost use Rattle.aftr_base.specs.Drops.{drop_counts};
 ghost use Rattle.aftr_base.specs.declared.outcome.Status.{Status};
 ghost use Rattle.cfg_text.specs.Accepted.{is_accepted};
 ghost use Rattle.cfg_text.specs.Defaults.{defaults};
 ghost use Rattle.xlate_core.specs.Valid.{IsValid};
-ghost use Rattle.aftr_engine.specs.declared.engine.Answer.TheVariants.{Name, Listed};
+ghost use Rattle.aftr_base.specs.declared.told.Told.{Told};
 ghost use Rattle.aftr_engine.specs.declared.words.Command.{Command};
-ghost use Rattle.aftr_engine.specs.declared.words.Command.TheVariants.{Run, Trace, Leases};
+ghost use Rattle.aftr_engine.specs.declared.words.Command.TheVariants.{Init, Run, Trace, Leases};
 ghost use Rattle.aftr_engine.specs.words.Words.{command_for, paths_for, input_count};
-ghost use Rattle.aftr_base.specs.declared.row.LeaseRow.{LeaseRow};
-ghost use Rattle.aftr_engine.specs.lease_log.Told.{told_by};
-ghost use Rattle.aftr_engine.specs.trace_query.Names.{name_of};
-ghost use Rattle.aftr_engine.specs.trace_query.Senders.{NamesSenders};
-ghost use Rattle.aftr_engine.specs.report.Lines.{trace_line, leases_text};
+ghost use Rattle.aftr_engine.specs.egress_gate.Logged.{Tells};
+ghost use Rattle.recovery.specs.Answers.{HasRecovered, IsReady};
+ghost use Rattle.recovery.specs.Closings.{recovered};
+ghost use Rattle.recovery.specs.Leaves.{RecoverLeaves};
+ghost use Rattle.trace_query.specs.Logs.{AreBelieved};
+ghost use Rattle.trace_query.specs.Names.{name_of};
+ghost use Rattle.aftr_engine.specs.session.Attributed.{AnswersForEachPacket, EachStopIsAnswered};
+ghost use Rattle.aftr_engine.specs.session.Senders.{CanBegin, NamesEachSender};
+ghost use Rattle.aftr_engine.specs.report.Lines.{trace_line, told_text};
 ghost use Rattle.plant_io.specs.Uses.{Writes, source_use, plant_use, sink_use};
-ghost use Rattle.aftr_engine.specs.session.EndToEnd.{front_run};
-ghost use Rattle.aftr_engine.specs.session.Stops.{AccountsFor};
-ghost use Rattle.aftr_engine.specs.engine.Reported.{IsNoCommand, IsPrinted, IsReported, PrintsFault};
-ghost use Rattle.aftr_engine.specs.engine.Running.{RanAs, RefusesFor, at_first, first_use, no_source};
+ghost use Rattle.aftr_engine.specs.session.EndToEnd.{front_run, run_of, told_behind};
+ghost use Rattle.aftr_engine.specs.session.Stops.{LeavesLog};
+ghost use Rattle.aftr_engine.specs.engine.Reported.{IsKept, IsNoCommand, IsPrinted, IsReported, PrintsFault};
+ghost use Rattle.aftr_engine.specs.engine.Running.{LeavesRows, RanAs, RefusesConfig, RefusesLog, at_first, first_use, no_source};
 ghost use Rattle.aftr_engine.specs.engine.Asking.{AnsweredAs, AnswersFor, answer_to};
-ghost use Rattle.aftr_engine.specs.engine.Texts.{IsBadText, answer_text, no_plant, text_of};
+ghost use Rattle.aftr_engine.specs.engine.Making.{MadeAs, MakesFor};
+ghost use Rattle.aftr_engine.specs.engine.Texts.{IsBadText, IsListed, answer_text, text_of};
 
-use crate::lease_log::{ToldBad, read_told};
-use crate::report::{write_fault, write_leases, write_summary, write_trace};
+use crate::report::{Listing, write_fault, write_summary, write_told, write_trace};
 use crate::session::Session;
 use crate::tally::Tally;
-use crate::trace_query::name;
 use crate::words::{Command, command_of};
-use aftr_base::{Ip4, Key, LeaseRow, List, Moment, NoMemory, Outcome, Status, Subscriber, Word};
+use aftr_base::{Ip4, Key, List, Moment, NoMemory, Outcome, Status, Told, Word};
 use cfg_text::Config;
+use disk_journal::{MakeBad, make};
+use lease_log::{ToldBad, read_told};
 use plant_io::{Failed, Plant, Sink, Source};
+use recovery::{Ready, RecoverBad, closings_keep_names, recover};
 use std::alloc::Global;
+use trace_query::{Named, name};
 
-/// Runs a command. `run CONFIG LOG OUTLET INPUT` translates the records of one input of frames, with the default
-/// configuration, onto a log that has no byte yet, and sends behind what the outlet has. `trace LOG ADDRESS PORT MOMENT`
-/// prints who had a place at a moment, by the log, and `leases LOG` prints all leases that the log tells. The objects are
-/// those that the words name, one input for each: none where they are no command. The answer of every command goes to
-/// `report`.
+/// Runs a command. `init LOG` makes an empty log in a file without a byte. `run CONFIG LOG OUTLET INPUT` translates the records
+/// of one input of frames, with the default configuration: it first closes what the log tells as open, and sends behind what the
+/// outlet has. `trace LOG ADDRESS PORT MOMENT` prints who had a place at a moment, by the log, and `leases LOG` prints all that the
+/// log tells. The objects are those that the words name, one input for each: none where they are no command. The answer of
+/// every command goes to `report`.
 ///
 /// What is refused is refused in this order: `BadWords` where the words are no command; then, of a run, `BadConfig` where
-/// the configuration has a byte, `AlreadyThere` with the log's size in bytes where it has one, and `BadInput` with the
-/// offset at which no record stands, all before it treated. `LogDamaged` is a query's, with the offset of the first record
-/// that isn't sound. `ReadFault`, `LogFault` and `OutFault` come where a read, the log, or the outlet or the report failed, and
-/// `NoMemory` of every command.
+/// the configuration has a byte; of a run and a query, `LogDamaged` with the offset of the first frame that isn't sound; of `init`
+/// `AlreadyThere` with the file's size in bytes where it has a byte; of a run, at its start and then record by record, `LogFull`
+/// where the log has no room, and `BadInput` with the offset at which no record stands, all before it
+/// treated. `ReadFault`, `LogFault` and `OutFault` come where a read, the log, or the outlet or the report failed, and `NoMemory`
+/// of every command but `init`.
 pub fn aftr<C: Source, I: Source, P: Plant, R: Sink>(
     alloc: Global,
     words: &[Word],
@@ -70,8 +78,13 @@ pub fn aftr<C: Source, I: Source, P: Plant, R: Sink>(
         (first_use ⟦<I as Source>⟧ inputs.old inputs.new)
         (plant_use ⟦<P as Plant>⟧ plant.old plant.new) result.drops.0) }
 
-    // A query answers by what the log's bytes tell, and changes nothing.
-    ensures query { (command : Command) (answer : List LeaseRow → List ℕ) →
+    // Making a log makes an empty one, in a file without a byte.
+    ensures init { command_for words.now ≡ Some Init → IsReported
+        (sink_use ⟦<R as Sink>⟧ report.old report.new) result.status
+        (MadeAs (plant_use ⟦<P as Plant>⟧ plant.old plant.new) result.drops.0) }
+
+    // A query answers by what the log tells, and changes none of its bytes.
+    ensures query { (command : Command) (answer : Told → List ℕ) →
         command_for words.now ≡ Some command → answer_to command ≡ Some answer → IsReported
         (sink_use ⟦<R as Sink>⟧ report.old report.new) result.status
         (AnsweredAs answer (plant_use ⟦<P as Plant>⟧ plant.old plant.new) result.drops.0) }
@@ -80,20 +93,32 @@ pub fn aftr<C: Source, I: Source, P: Plant, R: Sink>(
     ensures reason { result.status ≡ Status.BadWords → command_for words.now ≡ None }
     ensures fault { PrintsFault (sink_use ⟦<R as Sink>⟧ report.old report.new) result.status }
 
-    // A stop at any moment leaves a log that begins with all that was logged for the packets sent until then.
-    ensures stops { I.tells → P.tells → StopsLeave (P.story plant.old) (P.story plant.new)
-        (AccountsFor defaults (at_first [] I.rest inputs.old) (sent (P.story plant.old))) }
+    // A stop at any moment, but while a log is made, leaves what a stop at the start or while rows are closed might have left, with
+    // nothing sent, or a log that tells what the records came to whose packets were sent until then.
+    ensures stops { I.tells → P.tells → command_for words.now ≢ Some Init → StopsLeave
+        (P.story plant.old) (P.story plant.new)
+        (LeavesLog defaults (at_first [] I.rest inputs.old) (P.story plant.old)) }
+
+    // So the log that a stop leaves at any moment can be believed, where each that a stop at the start might have left could be: it
+    // names for each packet that left whole the one subscriber whose it was, and still names whom it named.
+    ensures answers { (was : Told) → I.tells → P.tells → command_for words.now ≢ Some Init →
+        Tells (content (P.story plant.old)) was → AreBelieved (IsImage (P.story plant.old)) →
+        AnswersForEachPacket (P.story plant.old) (P.story plant.new)
+        (run_of defaults (recovered was) (at_first [] I.rest inputs.old)).items }
     ensures marks { result.marks ≡ [] }
 
-    // Laws of the plain translator: the log of any first records tells their leases, which name the one subscriber of each
-    // packet that went out; each mapping has a place of its own in an open lease of its owner, and no two leases share a port
-    // at a moment.
-    ensures names { (records : ℕ) →
-        NamesSenders (front_run defaults records (at_first [] I.rest inputs.old)) }
-    ensures valid { (records : ℕ) →
-        IsValid (front_run defaults records (at_first [] I.rest inputs.old)).state }
+    // Laws of the plain translator, from a log of closed rows that names one at most: what it tells of any first records names the
+    // one subscriber of each packet that went out, and its horizon reaches the packet's moment; each mapping has a place of its own
+    // in an open lease of its owner, and no two leases share a port at a moment.
+    ensures names { (told : Told) (records : ℕ) → CanBegin told →
+        let r = front_run defaults told records (at_first [] I.rest inputs.old) in
+        NamesEachSender (told_behind told r) r.items }
+    ensures valid { (told : Told) (records : ℕ) → CanBegin told →
+        IsValid (front_run defaults told records (at_first [] I.rest inputs.old)).state }
 {
+    stops_are_answered();
     let ended = match command_of(words) {
+        Some(Command::Init) => init(plant),
         Some(Command::Run) => run(alloc, cfg, &mut inputs[0], plant),
         Some(Command::Trace { addr, port, at }) => trace(alloc, plant, addr, port, at),
         Some(Command::Leases) => list(alloc, plant),
@@ -103,10 +128,10 @@ pub fn aftr<C: Source, I: Source, P: Plant, R: Sink>(
 }
 
 /// Translates the records of one input of frames, with this configuration, as `run` does with the default one: onto a log
-/// that has no byte yet, behind what the outlet has, and its answer goes to `report`.
+/// whose open rows it closes first, behind what the outlet has, and its answer goes to `report`.
 ///
-/// It is for accepted configurations without a plan. `AlreadyThere` comes where the log has a byte, and `BadInput` with the
-/// offset at which no record stands, after those before it were treated. `ReadFault`, `LogFault` and `OutFault` come where a read,
+/// It is for accepted configurations without a plan. `LogDamaged` comes where the log isn't sound, `LogFull` where it has no room for
+/// the closings or for what a record logs, up to the configuration's limit, and `BadInput` with the offset at which no record stands, after those before it were treated. `ReadFault`, `LogFault` and `OutFault` come where a read,
 /// the log, or the outlet or the report failed, and `NoMemory` where memory ran out.
 pub fn run_config<I: Source, P: Plant, R: Sink>(
     alloc: Global,
@@ -124,30 +149,46 @@ pub fn run_config<I: Source, P: Plant, R: Sink>(
         (RanAs config no_source (first_use ⟦<I as Source>⟧ inputs.old inputs.new)
         (plant_use ⟦<P as Plant>⟧ plant.old plant.new) result.drops.0) }
 
-    // A stop at any moment leaves a log that begins with all that was logged for the packets sent until then.
+    // A stop at any moment leaves what a stop at the start or while rows are closed might have left, with nothing sent, or a log that
+    // tells what the records came to whose packets were sent until then; so it answers for each packet, as of `aftr`.
     ensures stops { I.tells → P.tells → StopsLeave (P.story plant.old) (P.story plant.new)
-        (AccountsFor config (at_first [] I.rest inputs.old) (sent (P.story plant.old))) }
+        (LeavesLog config (at_first [] I.rest inputs.old) (P.story plant.old)) }
+    ensures answers { (was : Told) → I.tells → P.tells →
+        Tells (content (P.story plant.old)) was → AreBelieved (IsImage (P.story plant.old)) →
+        AnswersForEachPacket (P.story plant.old) (P.story plant.new)
+        (run_of config (recovered was) (at_first [] I.rest inputs.old)).items }
     ensures marks { result.marks ≡ [] }
 
     // Laws of the plain translator, as of `aftr`.
-    ensures names { (records : ℕ) →
-        NamesSenders (front_run config records (at_first [] I.rest inputs.old)) }
-    ensures valid { (records : ℕ) →
-        IsValid (front_run config records (at_first [] I.rest inputs.old)).state }
+    ensures names { (told : Told) (records : ℕ) → CanBegin told →
+        let r = front_run config told records (at_first [] I.rest inputs.old) in
+        NamesEachSender (told_behind told r) r.items }
+    ensures valid { (told : Told) (records : ℕ) → CanBegin told →
+        IsValid (front_run config told records (at_first [] I.rest inputs.old)).state }
 {
+    stops_are_answered();
     let ended = translate(alloc, config, &mut inputs[0], plant);
     reported(alloc, ended, report)
+}
+
+// What a run's stops leave answers for each packet that left whole.
+fn stops_are_answered()
+    ensures { EachStopIsAnswered }
+{
+    closings_keep_names();
 }
 
 /// What a command that ends well answers.
 #[derive(Debug, Drop)]
 pub enum Answer {
+    /// Nothing is printed.
+    Nothing,
     /// A run's counts.
     Summary,
-    /// The subscriber that had a place, if one had it.
-    Name(Option<Subscriber>),
-    /// The leases that the log tells.
-    Listed(List<LeaseRow>),
+    /// Whom the log names.
+    Name(Named),
+    /// All that the log tells.
+    Listed(Listing),
 }
 
 /// How a command ended, before it is reported.
@@ -185,40 +226,68 @@ fn answered(answer: Answer) -> Ended
     }
 }
 
+// Makes an empty log.
+fn init<P: Plant>(plant: &mut P) -> Ended
+    ensures { MadeAs (plant_use ⟦<P as Plant>⟧ plant.old plant.new) result.tally.drops.0
+        result.status (text_of result.tally result.answer result.status) }
+{
+    match make(plant) {
+        Ok(()) => answered(Answer::Nothing),
+        Err(MakeBad::AlreadyThere(size)) => Ended::early(Status::AlreadyThere(size)),
+        Err(MakeBad::Failed) => Ended::early(Status::LogFault),
+    }
+}
+
 // Who had a place at a moment, by what the log tells.
 fn trace<P: Plant>(alloc: Global, plant: &mut P, addr: Ip4, port: u16, at: Moment) -> Ended
-    ensures { AnsweredAs (λ (leases : List LeaseRow). trace_line (name_of leases addr port at.0))
+    ensures answered { AnsweredAs (λ (told : Told). trace_line (name_of told addr port at.0))
         (plant_use ⟦<P as Plant>⟧ plant.old plant.new) result.tally.drops.0
         result.status (text_of result.tally result.answer result.status) }
+    ensures stops { P.tells → StopsLeave (P.story plant.old) (P.story plant.new)
+        (AttachLeaves (P.story plant.old)) }
 {
-    match read_leases(alloc, plant) {
-        Ok(leases) => answered(Answer::Name(name(leases.as_slice(), addr, port, at))),
+    match told_log(alloc, plant) {
+        Ok(told) => answered(Answer::Name(name(&told, addr, port, at))),
         Err(status) => Ended::early(status),
     }
 }
 
-// All leases that the log tells.
+// All that the log tells.
 fn list<P: Plant>(alloc: Global, plant: &mut P) -> Ended
-    ensures { AnsweredAs (λ (leases : List LeaseRow). leases_text leases)
+    ensures answered { AnsweredAs (λ (told : Told). told_text told)
         (plant_use ⟦<P as Plant>⟧ plant.old plant.new) result.tally.drops.0
         result.status (text_of result.tally result.answer result.status) }
+    ensures stops { P.tells → StopsLeave (P.story plant.old) (P.story plant.new)
+        (AttachLeaves (P.story plant.old)) }
 {
-    match read_leases(alloc, plant) {
-        Ok(leases) => answered(Answer::Listed(leases)),
+    match told_log(alloc, plant) {
+        Ok(told) => listed(alloc, told),
         Err(status) => Ended::early(status),
     }
 }
 
-// What the log tells, or how a query ends without it.
-fn read_leases<P: Plant>(alloc: Global, plant: &mut P) -> Result<List<LeaseRow>, Status>
-    ensures told { P.tells → IfOk result
-        (λ leases. told_by (content (P.story plant.old)) ≡ Whole leases) }
+// The answer that lists what a log tells.
+fn listed(alloc: Global, told: Told) -> Ended
+    ensures listed { IsListed told result }
+    ensures drops { result.tally.drops.0 ≡ drop_counts [] }
+{
+    match Listing::new(alloc, told) {
+        Ok(listing) => answered(Answer::Listed(listing)),
+        Err(NoMemory) => Ended::early(Status::NoMemory),
+    }
+}
+
+// Reads what the log tells, or says how a query ends without it.
+fn told_log<P: Plant>(alloc: Global, plant: &mut P) -> Result<Told, Status>
+    ensures tells { P.tells → IfOk result (Tells (content (P.story plant.old))) }
     ensures refused { IfErr result (λ status. status ≢ Status.Ok) }
     ensures reason { IfErr result (AnswersFor (plant_use ⟦<P as Plant>⟧ plant.old plant.new)) }
-    ensures same { P.tells → P.story plant.new ≡ P.story plant.old }
+    ensures same { P.tells → IsKept (plant_use ⟦<P as Plant>⟧ plant.old plant.new) }
+    ensures stops { P.tells → StopsLeave (P.story plant.old) (P.story plant.new)
+        (AttachLeaves (P.story plant.old)) }
 {
     match read_told(alloc, plant) {
-        Ok(leases) => Ok(leases),
+        Ok((told, _)) => Ok(told),
         Err(ToldBad::Damaged(offset)) => Err(Status::LogDamaged(offset)),
         Err(ToldBad::Failed) => Err(Status::LogFault),
         Err(ToldBad::NoMemory) => Err(Status::NoMemory),
@@ -237,7 +306,7 @@ fn run<C: Source, I: Source, P: Plant>(
         (plant_use ⟦<P as Plant>⟧ plant.old plant.new) result.tally.drops.0
         result.status (text_of result.tally result.answer result.status) }
     ensures stops { I.tells → P.tells → StopsLeave (P.story plant.old) (P.story plant.new)
-        (AccountsFor defaults (I.rest input.old) (sent (P.story plant.old))) }
+        (LeavesLog defaults (I.rest input.old) (P.story plant.old)) }
 {
     match read_config(alloc, cfg) {
         Ok(config) => translate(alloc, config, input, plant),
@@ -245,7 +314,7 @@ fn run<C: Source, I: Source, P: Plant>(
     }
 }
 
-// The log, which must be empty, and then the records.
+// The log, with its open rows closed, and then the records.
 fn translate<I: Source, P: Plant>(
     alloc: Global,
     config: Config,
@@ -257,13 +326,13 @@ fn translate<I: Source, P: Plant>(
         (plant_use ⟦<P as Plant>⟧ plant.old plant.new) result.tally.drops.0
         result.status (text_of result.tally result.answer result.status) }
     ensures stops { I.tells → P.tells → StopsLeave (P.story plant.old) (P.story plant.new)
-        (AccountsFor config (I.rest input.old) (sent (P.story plant.old))) }
+        (LeavesLog config (I.rest input.old) (P.story plant.old)) }
 {
-    match check_log(plant) {
-        Ok(()) => {}
+    let Ready { told, journal, .. } = match ready_log(alloc, plant, config.log_limit) {
+        Ok(ready) => ready,
         Err(status) => return Ended::early(status),
-    }
-    match Session::new(alloc, config) {
+    };
+    match Session::new(alloc, config, &told, journal) {
         Ok(mut session) => {
             let status = session.run(alloc, input, plant);
             Ended {
@@ -281,8 +350,7 @@ fn read_config<C: Source>(alloc: Global, cfg: &mut C) -> Result<Config, Status>
     ensures same { IfOk result (λ config. config ≡ defaults) }
     ensures accepted { IfOk result (λ config. is_accepted config ≡ true) }
     ensures empty { C.tells → OnOk result (C.rest cfg.old ≡ []) }
-    ensures refused { IfErr result
-        (RefusesFor (source_use ⟦<C as Source>⟧ cfg.old cfg.new) no_plant) }
+    ensures refused { IfErr result (RefusesConfig (source_use ⟦<C as Source>⟧ cfg.old cfg.new)) }
 {
     let mut byte = [0u8; 1];
     match cfg.read(&mut byte) {
@@ -314,19 +382,27 @@ fn bad_text(alloc: Global) -> Status
     }
 }
 
-// A log must be empty.
-fn check_log<P: Plant>(plant: &mut P) -> Result<(), Status>
-    ensures empty { P.tells → OnOk result (content (P.story plant.old) ≡ []) }
+// The log with every row that was open closed, or how a run ends without it.
+fn ready_log<P: Plant>(alloc: Global, plant: &mut P, limit: u64) -> Result<Ready, Status>
+    ensures ready { IfOk result IsReady }
+    ensures recovered { P.tells → IfOk result
+        (HasRecovered limit (content (P.story plant.old)) (content (P.story plant.new))) }
+    ensures settled { P.tells → OnOk result (IsSettled (P.story plant.new)) }
     ensures refused { IfErr result
-        (RefusesFor no_source (plant_use ⟦<P as Plant>⟧ plant.old plant.new)) }
-    ensures same { P.tells → P.story plant.new ≡ P.story plant.old }
+        (RefusesLog limit (plant_use ⟦<P as Plant>⟧ plant.old plant.new)) }
+    ensures rows { P.tells → IfErr result (LeavesRows (plant_use ⟦<P as Plant>⟧ plant.old plant.new)) }
+    ensures unsent { P.tells → sent (P.story plant.new) ≡ sent (P.story plant.old) }
+    ensures stops { P.tells → StopsLeave (P.story plant.old) (P.story plant.new)
+        (RecoverLeaves (P.story plant.old)) }
     ensures later { P.disk_faults plant.old ≤ P.disk_faults plant.new }
     ensures outlet { P.out_faults plant.new ≡ P.out_faults plant.old }
 {
-    match plant.size() {
-        Ok(0) => Ok(()),
-        Ok(size) => Err(Status::AlreadyThere(size)),
-        Err(Failed) => Err(Status::LogFault),
+    match recover(alloc, plant, limit) {
+        Ok(ready) => Ok(ready),
+        Err(RecoverBad::Damaged(offset)) => Err(Status::LogDamaged(offset)),
+        Err(RecoverBad::Full { tail, need, limit }) => Err(Status::LogFull { tail, need, limit }),
+        Err(RecoverBad::Failed) => Err(Status::LogFault),
+        Err(RecoverBad::NoMemory) => Err(Status::NoMemory),
     }
 }
 
@@ -373,8 +449,9 @@ fn print_answer<R: Sink>(report: &mut R, ended: &Ended) -> Result<(), Failed>
         (sink_use ⟦<R as Sink>⟧ report.old report.new) result }
 {
     match &ended.answer {
+        Answer::Nothing => Ok(()),
         Answer::Summary => write_summary(report, &ended.tally),
         Answer::Name(name) => write_trace(report, *name),
-        Answer::Listed(leases) => write_leases(report, leases.as_slice()),
+        Answer::Listed(listing) => write_told(report, listing),
     }
 }

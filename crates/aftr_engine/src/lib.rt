@@ -3,14 +3,11 @@
 
 mod egress_gate;
 mod engine;
-mod lease_log;
 mod link_records;
-mod nat_events;
 mod report;
 mod session;
 mod tally;
-mod trace_query;
 mod words;
 
 pub use engine::{aftr, run_config};
-pub use words::{Paths, paths_of};
+pub use words::{LogUse, Paths, log_use_of, paths_of};

@@ -1,15 +1,20 @@
 //! The printed report: the counts of a run that ended well, the answer of a trace, the rows of a log, or the line of a
 //! fault. It takes no memory.
-ghost use Rattle.std.specs.Prelude.{◌≡◌, ◌≤◌, ◌+◌, ◌*◌, ◌<◌, ◌%◌, ◌++◌, ◌∷◌, [], length, map, decimal, codes};
+ghost use Rattle.std.specs.Prelude.{◌≡◌, ◌≤◌, ◌+◌, ◌*◌, ◌<◌, ◌%◌, ◌++◌, ◌∷◌, [], length, map, decimal, codes, IfOk, OnOk};
 ghost use Rattle.plant_io.specs.Uses.{Writes, sink_use};
 ghost use Rattle.aftr_base.specs.Drops.{name_of};
-ghost use Rattle.aftr_engine.specs.report.Lines.{line, drop_line, drop_lines, summary, fault_line, ip4_text, hex_digit, group, groups, prefix_text, trace_line, until_text, lease_line, leases_text};
+ghost use Rattle.aftr_engine.specs.report.Lines.{line, drop_line, drop_lines, summary, fault_line, ip4_text, hex_digit, group, groups, prefix_text, trace_line, until_text, lease_line, lease_lines, plan_line, plan_lines, horizon_line, told_text};
 
 use crate::tally::Tally;
-use aftr_base::{DropCause, Ip4, Key, LeaseRow, Moment, Status, Subscriber};
+use aftr_base::{
+    DropCause, Ip4, Key, LeaseRow, List, Moment, NoMemory, PlanRow, Status, Subscriber, Told,
+};
 use arrayvec::ArrayString;
 use itoa::Buffer;
+use nat_events::plan_text;
 use plant_io::{Failed, Sink};
+use std::alloc::Global;
+use trace_query::Named;
 
 /// Lines in the making. The longest are a run's: three of up to 28 bytes, and one for each of 23 causes, of up to 44.
 type Lines = ArrayString<1200>;
@@ -48,19 +53,90 @@ pub fn write_fault<R: Sink>(report: &mut R, status: &Status) -> Result<(), Faile
     }
 }
 
-/// Writes the answer of a trace: who had the place, or that nobody did. It fails where the report does, and then a first
-/// part of the line stands there.
-pub fn write_trace<R: Sink>(report: &mut R, name: Option<Subscriber>) -> Result<(), Failed>
+/// Writes the answer of a trace: who had the place, that nobody had it, or how far the log promises names. It fails where the
+/// report does, and then a first part of the line stands there.
+pub fn write_trace<R: Sink>(report: &mut R, name: Named) -> Result<(), Failed>
     ensures { Writes (trace_line name) (sink_use ⟦<R as Sink>⟧ report.old report.new) result }
 {
     let line = trace_line(name);
     write_text(report, line.as_str())
 }
 
-/// Writes a line for each of these leases. It fails where the report does, and then a first part of the text stands
-/// there.
-pub fn write_leases<R: Sink>(report: &mut R, leases: &[LeaseRow]) -> Result<(), Failed>
-    ensures { Writes (leases_text leases.now)
+/// What a log tells, with the lines of its plans, which are made before a line is written: a plan's text can have any length.
+#[derive(Debug, Drop)]
+pub struct Listing {
+    pub told: Told,
+    pub plans: List<u8>,
+    ghost made: { plans ≡ plan_lines told.plans },
+}
+
+impl Listing {
+    /// The listing of what a log tells.
+    pub fn new(alloc: Global, told: Told) -> Result<Self, NoMemory>
+        ensures { IfOk result (λ listing. listing.told ≡ told) }
+    {
+        let plans = plan_lines(alloc, told.plans.as_slice())?;
+        Ok(Listing { told, plans })
+    }
+}
+
+/// Writes what a log tells: a line for each lease, the lines of its plans, and that of its horizon. It fails where the report
+/// does, and then a first part of the text stands there.
+pub fn write_told<R: Sink>(report: &mut R, listing: &Listing) -> Result<(), Failed>
+    ensures { Writes (told_text listing.now.told)
+        (sink_use ⟦<R as Sink>⟧ report.old report.new) result }
+{
+    write_leases(report, listing.told.leases.as_slice())?;
+    write_lines(report, listing.plans.as_slice())?;
+    write_horizon(report, listing.told.horizon)
+}
+
+/// The lines of plans.
+fn plan_lines(alloc: Global, plans: &[PlanRow]) -> Result<List<u8>, NoMemory>
+    ensures { IfOk result (λ lines. lines ≡ plan_lines plans.now) }
+{
+    let mut lines = List::new(alloc);
+    for plan in plans {
+        push_plan(&mut lines, plan)?;
+    }
+    Ok(lines)
+}
+
+/// Appends the line of a plan.
+fn push_plan(lines: &mut List<u8>, plan: &PlanRow) -> Result<(), NoMemory>
+    ensures { OnOk result (lines.new ≡ lines.old ++ plan_line plan.now) }
+{
+    let head = plan_head(plan);
+    lines.extend_from_slice(head.as_bytes())?;
+    plan_text(&plan.spec, lines)?;
+    lines.push(b'\n')
+}
+
+/// The line of a plan up to its text.
+fn plan_head(plan: &PlanRow) -> Lines
+    ensures { result.bytes ≡ codes "plan " ++ decimal plan.now.since.0 ++ 32
+        ∷ (until_text plan.now.until ++ 32 ∷ []) }
+{
+    let mut head = Lines::new();
+    head.push_str("plan");
+    push_number(&mut head, plan.since.0);
+    push_until(&mut head, plan.until);
+    head.push(' ');
+    head
+}
+
+/// Writes the line of the horizon.
+fn write_horizon<R: Sink>(report: &mut R, horizon: Moment) -> Result<(), Failed>
+    ensures { Writes (horizon_line horizon.0) (sink_use ⟦<R as Sink>⟧ report.old report.new) result }
+{
+    let mut line = Lines::new();
+    push_count(&mut line, "horizon", horizon.0);
+    write_text(report, line.as_str())
+}
+
+/// Writes a line for each of these leases.
+fn write_leases<R: Sink>(report: &mut R, leases: &[LeaseRow]) -> Result<(), Failed>
+    ensures { Writes (lease_lines leases.now)
         (sink_use ⟦<R as Sink>⟧ report.old report.new) result }
 {
     for lease in leases {
@@ -96,6 +172,13 @@ fn write_line<R: Sink>(report: &mut R, name: &str, numbers: &[u64]) -> Result<()
 {
     let line = line_of("fault", name, numbers);
     write_text(report, line.as_str())
+}
+
+/// Writes lines that were made before.
+fn write_lines<R: Sink>(report: &mut R, lines: &[u8]) -> Result<(), Failed>
+    ensures { Writes lines.now (sink_use ⟦<R as Sink>⟧ report.old report.new) result }
+{
+    report.write(lines)
 }
 
 /// Writes a text.
@@ -173,16 +256,21 @@ fn line_of(head: &str, name: &str, numbers: &[u64]) -> Lines
 }
 
 /// The line that answers a trace.
-fn trace_line(name: Option<Subscriber>) -> Lines
+fn trace_line(name: Named) -> Lines
     ensures { result.bytes ≡ trace_line name }
 {
     match name {
-        None => {
+        Named::Subscriber(owner) => named_line(owner),
+        Named::Unheld => {
             let mut line = Lines::new();
             line.push_str("unheld\n");
             line
         }
-        Some(owner) => named_line(owner),
+        Named::Beyond(horizon) => {
+            let mut line = Lines::new();
+            push_count(&mut line, "beyond", horizon.0);
+            line
+        }
     }
 }
 

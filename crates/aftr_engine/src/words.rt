@@ -1,8 +1,8 @@
 //! The words of the command line.
-ghost use Rattle.std.specs.Prelude.{◌≡◌, ◌≤◌, ◌∷◌, [], Some, None, IfSome, IfNone, if◌then◌else◌};
+ghost use Rattle.std.specs.Prelude.{◌≡◌, ◌≤◌, ◌∷◌, [], Some, None, IfSome, IfNone, option_map, if◌then◌else◌};
 ghost use Rattle.std.specs.List.{list_any};
 ghost use Rattle.aftr_base.specs.Bytes.{split_on};
-ghost use Rattle.aftr_engine.specs.words.Words.{is_odd, number_upto, value_of, is_octet, begins_well, address_in, address_of, traced, with_one, with_four, command_in, command_for, paths_with, paths_for};
+ghost use Rattle.aftr_engine.specs.words.Words.{is_odd, number_upto, value_of, is_octet, begins_well, address_in, address_of, traced, with_one, with_four, command_in, command_for, paths_with, paths_for, log_use};
 ghost use Rattle.aftr_base.specs.Limits.{log_moment_limit};
 
 use aftr_base::{Ip4, LOG_MOMENT_LIMIT, Moment, Word};
@@ -10,6 +10,8 @@ use aftr_base::{Ip4, LOG_MOMENT_LIMIT, Moment, Word};
 /// A command with its values; its paths are the other words.
 #[derive(Clone, Copy, Debug, PartialEq, Eq)]
 pub enum Command {
+    /// Makes an empty log.
+    Init,
     /// Translates one input of frames.
     Run,
     /// Asks who had a place at a moment, in milliseconds.
@@ -38,7 +40,36 @@ pub fn paths_of(words: &[Word]) -> Option<Paths>
     }
 }
 
-/// The command that the words are, or `None` where they are none: `run CONFIG LOG OUTLET INPUT`,
+/// What a command does with its log.
+#[derive(Clone, Copy, Debug, PartialEq, Eq)]
+pub enum LogUse {
+    /// It only reads it, and may do so while another command writes it.
+    Reads,
+    /// It writes it, as the only one.
+    Writes,
+}
+
+/// What the words' command does with its log, or `None` where the words are no command. Takes no memory.
+pub fn log_use_of(words: &[Word]) -> Option<LogUse>
+    ensures { result ≡ option_map log_use (command_for words.now) }
+{
+    match command_of(words) {
+        Some(command) => Some(log_use(command)),
+        None => None,
+    }
+}
+
+/// What a command does with its log.
+fn log_use(command: Command) -> LogUse
+    ensures { result ≡ log_use command }
+{
+    match command {
+        Command::Init | Command::Run => LogUse::Writes,
+        Command::Trace { .. } | Command::Leases => LogUse::Reads,
+    }
+}
+
+/// The command that the words are, or `None` where they are none: `init LOG`, `run CONFIG LOG OUTLET INPUT`,
 /// `trace LOG ADDRESS PORT MOMENT` or `leases LOG`. A word that is empty or begins with `-` makes them none. Takes no
 /// memory.
 pub fn command_of(words: &[Word]) -> Option<Command>
@@ -81,7 +112,7 @@ fn paths_with(command: Command) -> Paths
             first: 4,
             count: 1,
         },
-        Command::Trace { .. } | Command::Leases => Paths {
+        Command::Init | Command::Trace { .. } | Command::Leases => Paths {
             config: None,
             log: Some(1),
             outlet: None,
@@ -95,7 +126,9 @@ fn paths_with(command: Command) -> Paths
 fn with_one(name: &Word) -> Option<Command>
     ensures { result ≡ with_one name.now }
 {
-    if name.as_str() == "leases" {
+    if name.as_str() == "init" {
+        Some(Command::Init)
+    } else if name.as_str() == "leases" {
         Some(Command::Leases)
     } else {
         None

@@ -1,17 +1,16 @@
 -- What a log tells once a batch's message was committed.
-use Rattle.std.proofs.Common.{◌≡◌, ℕ, ◌+◌, List, [], ◌∷◌, length, inl, inr, ◌⊎◌, refl, sym, ap, ◌∙◌, subst, arith}
-use Rattle.std.specs.Prelude.{Result, Ok, Err}
+use Rattle.std.proofs.Common.{◌≡◌, ℕ, ◌+◌, List, length, inl, inr, sym, ap, ◌∙◌, arith}
+use Rattle.std.specs.Prelude.{Result, Ok}
 use Rattle.aftr_base.specs.Attempt.{◌>>=◌}
-use Rattle.aftr_base.specs.Telling.{told_after, in_message_order}
+use Rattle.aftr_base.specs.Telling.{told_after}
 use Rattle.aftr_base.specs.Told.{nothing_told}
-use Rattle.aftr_base.specs.declared.told.Told.{Told}
 use Rattle.aftr_base.specs.declared.event.LogEvent.{LogEvent}
-use Rattle.plant_io.specs.Story.{Story, content, sent}
+use Rattle.plant_io.specs.Story.{Story, content}
 use Rattle.plant_io.specs.Stops.{StopsLeave}
 use Rattle.plant_io.proofs.Moments.{weaker}
 use Rattle.disk_journal.specs.Commit.{CommitLeaves, IsCommitted, OnDone}
-use Rattle.disk_journal.specs.Frames.{body_of, message_of}
-use Rattle.disk_journal.specs.Walk.{Walk, walk_of, with_message, end_after, StandsAt}
+use Rattle.disk_journal.specs.Frames.{message_of}
+use Rattle.disk_journal.specs.Walk.{walk_of, with_message, StandsAt}
 use Rattle.disk_journal.specs.declared.format.Commit.{Commit}
 use Rattle.disk_journal.specs.declared.format.Commit.TheVariants.{Done, Full, Failed}
 use Rattle.disk_journal.proofs.Spellings.{message_of-body_of, length-body_of}
@@ -19,7 +18,7 @@ use Rattle.nat_events.specs.Grammar.{FitsLogMessage, MessagesReadBack}
 use Rattle.nat_events.specs.Reading.{events_of}
 use Rattle.nat_events.specs.Spelling.{message}
 use Rattle.lease_log.specs.Batch.{Batch, batch_body, CanAppend, TellsMore, AppendLeaves, HasAppended}
-use Rattle.lease_log.specs.Log.{Log, after_message, log_from, log_of, log_of_walk}
+use Rattle.lease_log.specs.Log.{Log, after_message, log_of_walk}
 use Rattle.lease_log.proofs.LogSteps.{log_more, log_stands}
 
 -- a log ends at its tail

@@ -1,23 +1,22 @@
 -- What a batch's body is: the frame of its message.
-use Rattle.std.proofs.Common.{◌≡◌, ℕ, suc, ◌+◌, ◌-◌, ◌/◌, ◌%◌, ◌<◌, ◌≤◌, ◌^◌, Bool, true, false, cond, List, [], ◌∷◌, ◌++◌, length, filter, All, refl, sym, ap, ◌∙◌, subst, arith, length-append, append_assoc, append-nil}
-use Rattle.std.specs.Prelude.{Some, None, flat_map, Vec, vec_capacity}
+use Rattle.std.proofs.Common.{◌≡◌, ℕ, ◌+◌, ◌<◌, ◌≤◌, ◌^◌, Bool, true, false, cond, List, [], ◌∷◌, ◌++◌, length, filter, refl, sym, ap, ◌∙◌, subst, arith, length-append, append_assoc, append-nil}
+use Rattle.std.specs.Prelude.{flat_map, Vec, vec_capacity}
 use Rattle.std.specs.declared.alloc.Global.{Global}
 use Rattle.std.proofs.lemmas.List.Elements.{All-push, filter-append}
 use Rattle.std.proofs.lemmas.List.Concat.{flat_map-append}
-use Rattle.aftr_base.specs.Bytes.{be16, be32, be64, be128}
-use Rattle.aftr_base.specs.Limits.{log_moment_limit}
+use Rattle.aftr_base.specs.Bytes.{be16, be32, be64}
 use Rattle.aftr_base.specs.Telling.{is_horizon, is_plan_event, is_block}
 use Rattle.aftr_base.specs.declared.event.LogEvent.{LogEvent}
 use Rattle.aftr_base.specs.declared.event.LogEvent.TheVariants.{Block, Horizon, Plan}
-use Rattle.disk_journal.specs.Frames.{body_of, message_of, IsBody, IsMessage}
-use Rattle.disk_journal.proofs.Spellings.{message_of-body_of, is_body, length-body_of}
+use Rattle.disk_journal.specs.Frames.{body_of, IsBody, IsMessage}
+use Rattle.disk_journal.proofs.Spellings.{is_body}
 use Rattle.ipfix_writer.specs.Grammar.{IpfixHead, IpfixSet, IpfixMessage, set_bytes, sets_bytes, head_bytes, message_bytes, message_len}
 use Rattle.nat_events.specs.Grammar.{FitsRecord, FitsLogMessage}
 use Rattle.nat_events.specs.Spelling.{event_record, set_with, sets_with, templates, template_set, message}
-use Rattle.lease_log.specs.Batch.{Batch, batch_body, with_event, CanAdd, IsWithinLimits}
+use Rattle.lease_log.specs.Batch.{Batch, batch_body, IsWithinLimits}
 use Rattle.lease_log.specs.Prepared.{records, size_of, with_record, room_for, IsPrepared, set_of_records, head_at, sets_of_records, message_with}
 use Rattle.lease_log.specs.declared.batch.Sets.{Sets}
-use Rattle.lease_log.proofs.RecordSizes.{set_sizes, SetSizes}
+use Rattle.lease_log.proofs.RecordSizes.{set_sizes}
 
 -- ---- sets
 

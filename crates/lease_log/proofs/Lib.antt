@@ -1,6 +1,9 @@
 pub mod Requiring
 pub mod Mapping
+pub mod OpenLeases
+pub mod Places
 pub mod SoundRows
+pub mod IndexSteps
 pub mod SoundSteps
 pub mod ToldSteps
 pub mod MessageBounds

@@ -1,15 +1,11 @@
 -- What a log tells, frame by frame.
-use Rattle.std.proofs.Common.{◌≡◌, ℕ, suc, ◌+◌, ◌≤◌, Bool, true, false, List, [], ◌∷◌, ◌++◌, length, refl, sym, ap, ◌∙◌, subst, arith}
+use Rattle.std.proofs.Common.{◌≡◌, ℕ, ◌+◌, Bool, true, false, List, [], ◌∷◌, ◌++◌, length, refl, sym, ap, ◌∙◌}
 use Rattle.std.specs.Prelude.{Result, Ok, Err, if◌then◌else◌}
 use Rattle.aftr_base.specs.Attempt.{◌>>=◌, refused_as}
-use Rattle.aftr_base.specs.Telling.{told_after, in_message_order}
 use Rattle.aftr_base.specs.Told.{nothing_told}
 use Rattle.aftr_base.specs.declared.told.Told.{Told}
-use Rattle.aftr_base.specs.declared.event.LogEvent.{LogEvent}
-use Rattle.disk_journal.specs.Walk.{Walk, walk_from, walk_of, has_header, no_messages, after_message as before_walk, with_message, end_after}
-use Rattle.nat_events.specs.Reading.{events_of}
+use Rattle.disk_journal.specs.Walk.{walk_from, walk_of, has_header, no_messages, after_message as before_walk, end_after}
 use Rattle.lease_log.specs.Log.{Log, after_message, log_from, log_of_walk, log_at, log_of}
-use Rattle.lease_log.proofs.Requiring.{ok_inj}
 
 -- ---- reading
 

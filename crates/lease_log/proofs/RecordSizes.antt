@@ -1,8 +1,7 @@
 -- How many bytes records have, and that a message with a batch's events isn't too long.
-use Rattle.std.proofs.Common.{◌≡◌, ℕ, ◌+◌, ◌*◌, ◌<◌, ◌≤◌, ◌^◌, Bool, true, false, cond, List, [], ◌∷◌, ◌++◌, length, filter, All, refl, sym, ap, ◌∙◌, subst, arith, length-append}
-use Rattle.std.specs.Prelude.{Some, None, flat_map, nat_lt, if◌then◌else◌}
+use Rattle.std.proofs.Common.{◌≡◌, ℕ, ◌+◌, ◌*◌, ◌≤◌, Bool, true, false, cond, List, [], ◌∷◌, ◌++◌, length, filter, All, refl, arith, length-append}
+use Rattle.std.specs.Prelude.{Some, None, flat_map, nat_lt}
 use Rattle.std.proofs.lemmas.List.Elements.{All-head, All-tail}
-use Rattle.std.proofs.lemmas.List.Concat.{flat_map-append}
 use Rattle.aftr_base.specs.Bytes.{be16, be32, be64, be128}
 use Rattle.aftr_base.specs.Telling.{is_horizon, is_plan_event, is_block}
 use Rattle.aftr_base.specs.declared.event.LogEvent.{LogEvent}

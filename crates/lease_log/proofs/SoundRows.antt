@@ -1,12 +1,12 @@
 -- Rows that are sound stay so as rows are added and end, and as the horizon rises.
-use Rattle.std.proofs.Common.{◌≡◌, ℕ, ◌≤◌, ◌<◌, Bool, true, false, cond, not, List, [], ◌∷◌, ◌++◌, length, get_or, map, All, AllPairs, refl, sym, ap, ◌∙◌, subst, arith}
-use Rattle.std.specs.Prelude.{◌&&◌, Some, None, IfSome}
+use Rattle.std.proofs.Common.{◌≡◌, ℕ, ◌≤◌, Bool, true, false, cond, not, List, [], ◌∷◌, ◌++◌, get_or, map, All, AllPairs, refl, sym}
+use Rattle.std.proofs.Common.{ap, arith}
+use Rattle.std.specs.Prelude.{◌&&◌, nat_le, Some}
 use Rattle.std.specs.List.{list_all, list_any}
-use Rattle.std.proofs.lemmas.Bool.Decides.{nat_tests}
-use Rattle.std.proofs.lemmas.List.Elements.{All-push, All-map, All-weaker}
+use Rattle.std.proofs.lemmas.Bool.{leb-true}
+use Rattle.std.proofs.lemmas.List.Elements.{All-map, All-weaker}
 use Rattle.std.proofs.lemmas.List.Quantifiers.{all_pairs_push}
 use Rattle.aftr_base.specs.Limits.{log_moment_limit}
-use Rattle.aftr_base.specs.Plan.{is_plan, is_prefix6}
 use Rattle.aftr_base.specs.Row.{is_open, is_in_use, overlaps, ended, plan_ended}
 use Rattle.aftr_base.specs.Telling.{is_lease_of, lease_ended, lease_told}
 use Rattle.aftr_base.specs.declared.value.Ip4.{Ip4}
@@ -16,12 +16,21 @@ use Rattle.aftr_base.specs.declared.row.LeaseRow.{LeaseRow}
 use Rattle.aftr_base.specs.declared.row.PlanRow.{PlanRow}
 use Rattle.aftr_base.proofs.Founds.{all_pass, none_any}
 use Rattle.aftr_base.proofs.Pairwise.{pairs_map}
-use Rattle.lease_log.specs.Sound.{IsSoundLease, IsSoundPlan, EndsInTime, clash}
+use Rattle.lease_log.specs.Sound.{IsSoundLease, IsSoundPlan, clash}
+use Rattle.lease_log.proofs.OpenLeases.{one_any, one_lease}
 
 -- ---- the horizon rises
 
 pub lease_under : (low high : ℕ) → low ≤ high → (l : LeaseRow) → IsSoundLease low l → IsSoundLease high l
-lease_under low high rises l s = record { owner = s.owner; ports = s.ports; begun = omega (arith, s.begun); end = s.end }
+lease_under low high rises l s = record {
+  owner = s.owner;
+  addr = s.addr;
+  ports = s.ports;
+  last = s.last;
+  begun = omega (arith, s.begun);
+  end = s.end;
+  order = s.order;
+}
 
 pub plan_under : (low high : ℕ) → low ≤ high → (p : PlanRow) → IsSoundPlan low p → IsSoundPlan high p
 plan_under low high rises p s = record { spec = s.spec; begun = omega (arith, s.begun); end = s.end }
@@ -29,10 +38,18 @@ plan_under low high rises p s = record { spec = s.spec; begun = omega (arith, s.
 -- ---- leases
 
 -- an end that a test chose
-end_by : (horizon at : ℕ) (l : LeaseRow) (b : Bool) → at ≤ log_moment_limit → IsSoundLease horizon l
+end_by : (horizon at : ℕ) (l : LeaseRow) (b : Bool) → at ≤ log_moment_limit → (b ≡ true → l.since.0 ≤ at) → IsSoundLease horizon l
     → IsSoundLease horizon (cond b (ended at l) l)
-end_by horizon at l true in_time s = record { owner = s.owner; ports = s.ports; begun = s.begun; end = in_time }
-end_by horizon at l false in_time s = s
+end_by horizon at l true in_time begun s = record {
+  owner = s.owner;
+  addr = s.addr;
+  ports = s.ports;
+  last = s.last;
+  begun = s.begun;
+  end = in_time;
+  order = begun refl;
+}
+end_by horizon at l false in_time begun s = s
 
 open_by : (at : ℕ) (l : LeaseRow) (b : Bool) → is_open l ≡ false → is_open (cond b (ended at l) l) ≡ false
 open_by at l true shut = refl
@@ -47,12 +64,24 @@ clash_by at l m false true h = and_false (is_open l)
     and_false false = refl
 clash_by at l m false false h = h
 
-pub leases_ended : (owner : Subscriber) (addr : Ip4) (first last : ℕ) (at : Moment) (horizon : ℕ) (leases : List LeaseRow) → at.0 ≤ log_moment_limit
-    → All (IsSoundLease horizon) leases → All (IsSoundLease horizon) (map (lease_ended owner addr first last at) leases)
-leases_ended owner addr first last at horizon leases in_time all =
-    let f = lease_ended owner addr first last at in
-    All-map (IsSoundLease horizon) f leases
-    (All-weaker (IsSoundLease horizon) (λ l. IsSoundLease horizon (f l)) (λ l s. end_by horizon at.0 l (is_lease_of owner addr first last l) in_time s) leases all)
+pub leases_ended : (is : LeaseRow → Bool) (at horizon : ℕ) (leases : List LeaseRow) → at ≤ log_moment_limit
+    → All (λ (l : LeaseRow). is l ≡ true → l.since.0 ≤ at) leases
+    → All (IsSoundLease horizon) leases
+    → All (IsSoundLease horizon) (map (λ l. cond (is l) (ended at l) l) leases)
+leases_ended is at horizon leases in_time begun all =
+    All-map (IsSoundLease horizon) (λ l. cond (is l) (ended at l) l) leases
+    (λ i d within. let l = get_or leases i d in end_by horizon at l (is l) in_time (begun i d within) (all i d within))
+
+-- the lease that may close began no later
+pub begun_before : (owner : Subscriber) (addr : Ip4) (first last : ℕ) (at : Moment) {horizon : ℕ} (leases : List LeaseRow)
+    → All (IsSoundLease horizon) leases
+    → AllPairs (λ l m. clash l m ≡ false) leases
+    → list_any (λ (l : LeaseRow). is_lease_of owner addr first last l && nat_le l.since.0 at.0) leases ≡ true
+    → All (λ (l : LeaseRow). is_lease_of owner addr first last l ≡ true → l.since.0 ≤ at.0) leases
+begun_before owner addr first last at {horizon} leases all apart may =
+    let one = one_lease owner addr first last leases (λ i d within. (all i d within).ports) apart in
+    let late = one_any (is_lease_of owner addr first last) (λ (l : LeaseRow). nat_le l.since.0 at.0) leases one may in
+    λ i d within is. leb-true (get_or leases i d).since.0 at.0 (late i d within is)
 
 pub apart_ended : (owner : Subscriber) (addr : Ip4) (first last : ℕ) (at : Moment) (leases : List LeaseRow)
     → AllPairs (λ l m. clash l m ≡ false) leases → AllPairs (λ l m. clash l m ≡ false) (map (lease_ended owner addr first last at) leases)
@@ -86,7 +115,8 @@ pub plans_ended : (at horizon : ℕ) (plans : List PlanRow) → at ≤ log_momen
     → All (IsSoundPlan horizon) (map (plan_ended at) plans)
 plans_ended at horizon plans in_time all =
     All-map (IsSoundPlan horizon) (plan_ended at) plans
-    (All-weaker (IsSoundPlan horizon) (λ p. IsSoundPlan horizon (plan_ended at p)) (λ p s. plan_end_by horizon at p (is_in_use p) in_time s) plans all)
+    (All-weaker (IsSoundPlan horizon) (λ p. IsSoundPlan horizon (plan_ended at p)) (λ p s. plan_end_by horizon at p (is_in_use p) in_time s)
+    plans all)
 
 used_by : (at : ℕ) (p : PlanRow) (b : Bool) → is_in_use p ≡ b → is_in_use (cond b (record p { until = Some record { 0 = at } }) p) ≡ false
 used_by at p true h = refl
@@ -95,7 +125,8 @@ used_by at p false h = h
 pub one_plan_ended : (at : ℕ) (plans : List PlanRow) → AllPairs (λ (p q : PlanRow). (is_in_use p && is_in_use q) ≡ false) plans
     → AllPairs (λ (p q : PlanRow). (is_in_use p && is_in_use q) ≡ false) (map (plan_ended at) plans)
 one_plan_ended at plans one =
-    pairs_map (λ (p q : PlanRow). (is_in_use p && is_in_use q) ≡ false) (λ (p q : PlanRow). (is_in_use p && is_in_use q) ≡ false) (plan_ended at)
+    pairs_map (λ (p q : PlanRow). (is_in_use p && is_in_use q) ≡ false)
+    (λ (p q : PlanRow). (is_in_use p && is_in_use q) ≡ false) (plan_ended at)
     (λ p q h. ap (λ (b : Bool). b && is_in_use (plan_ended at q)) (used_by at p (is_in_use p) refl)) plans one
 
 and_first_false : (a b : Bool) → a ≡ false → (a && b) ≡ false

@@ -1,11 +1,17 @@
 -- What is told after events, one at a time.
-use Rattle.std.proofs.Common.{◌≡◌, ℕ, suc, ◌+◌, Bool, true, false, List, [], ◌∷◌, ◌++◌, length, refl, ap, ◌∙◌, sym, arith}
-use Rattle.std.specs.Prelude.{nat_le, Result, Ok, Err}
+use Rattle.std.proofs.Common.{◌≡◌, suc, ◌+◌, Bool, true, false, List, [], ◌∷◌, length, refl, ap, arith, length-append, ◌++◌}
+use Rattle.std.proofs.lemmas.List.{length-map}
+use Rattle.std.specs.Prelude.{nat_le, not, ◌&&◌, ◌≤◌, map, Some, None, Result, Ok, Err}
+use Rattle.std.specs.List.{list_any}
 use Rattle.aftr_base.specs.Attempt.{◌>>=◌, ◌>>◌, require}
 use Rattle.aftr_base.specs.Limits.{log_moment_limit}
-use Rattle.aftr_base.specs.Telling.{after_event, moment_of, told_after}
+use Rattle.aftr_base.specs.Row.{is_in_use, plan_ended}
+use Rattle.aftr_base.specs.Telling.{after_event, lease_ended, lease_told, may_close, may_open, moment_of, told_after}
 use Rattle.aftr_base.specs.declared.told.Told.{Told}
+use Rattle.aftr_base.specs.declared.row.PlanRow.{PlanRow}
 use Rattle.aftr_base.specs.declared.event.LogEvent.{LogEvent}
+use Rattle.aftr_base.specs.declared.event.LogEvent.TheVariants.{Block, Horizon, Plan}
+use Rattle.lease_log.specs.Answers.{number_of_rows}
 use Rattle.lease_log.proofs.Requiring.{required, taken, ok_inj}
 
 step_ok : {A B : Type 0} (b : Bool) (r : Result A (Unit {0})) (f : A → B) (g : B → Result B (Unit {0})) (now : B)
@@ -42,3 +48,47 @@ told_count (e ∷ events) t now is =
     let parts = required tt (nat_le (moment_of e) log_moment_limit) (after_event t e >>= rest) now is in
     let step = taken (after_event t e) rest now parts.1 in
     omega (arith, told_count events (record step.0 { count = suc t.count }) now step.2)
+
+-- ---- each row has a record that opened it
+
+event_rows : (e : LogEvent) (t next : Told) → after_event t e ≡ Ok next → number_of_rows next ≤ number_of_rows t + 1
+event_rows (Block true owner addr first last at) t next is =
+    let leases = t.leases ++ lease_told owner addr first last at ∷ [] in
+    let made = required tt (may_open t owner addr first last at.0) (Ok (record t { leases = leases })) next is in
+    omega (
+      arith,
+      ap number_of_rows (ok_inj (record t { leases = leases }) next made.1),
+      length-append t.leases (lease_told owner addr first last at ∷ []),
+    )
+event_rows (Block false owner addr first last at) t next is =
+    let leases = map (lease_ended owner addr first last at) t.leases in
+    let made = required tt (may_close t owner addr first last at.0) (Ok (record t { leases = leases })) next is in
+    omega (
+      arith,
+      ap number_of_rows (ok_inj (record t { leases = leases }) next made.1),
+      length-map t.leases (lease_ended owner addr first last at),
+    )
+event_rows (Horizon at reach) t next is =
+    let made = required tt (nat_le t.horizon.0 reach.0 && nat_le reach.0 log_moment_limit) (Ok (record t { horizon = reach })) next is in
+    omega (arith, ap number_of_rows (ok_inj (record t { horizon = reach }) next made.1))
+event_rows (Plan at (Some spec)) t next is =
+    let row : PlanRow = record { spec = spec; since = at; until = None } in
+    let plans = t.plans ++ row ∷ [] in
+    let made = required tt (not (list_any is_in_use t.plans) && nat_le at.0 t.horizon.0) (Ok (record t { plans = plans })) next is in
+    omega (arith, ap number_of_rows (ok_inj (record t { plans = plans }) next made.1), length-append t.plans (row ∷ []))
+event_rows (Plan at None) t next is =
+    let plans = map (plan_ended at.0) t.plans in
+    let test = list_any (λ (p : PlanRow). is_in_use p && nat_le p.since.0 at.0) t.plans in
+    let made = required tt test (Ok (record t { plans = plans })) next is in
+    omega (arith, ap number_of_rows (ok_inj (record t { plans = plans }) next made.1), length-map t.plans (plan_ended at.0))
+
+pub told_rows : (events : List LogEvent) (t now : Told) → told_after events t ≡ Ok now
+    → number_of_rows now + t.count ≤ number_of_rows t + now.count
+told_rows [] t now is =
+    let same = ok_inj t now is in
+    omega (arith, ap number_of_rows same, ap (λ (s : Told). s.count) same)
+told_rows (e ∷ events) t now is =
+    let rest = λ (next : Told). told_after events (record next { count = suc t.count }) in
+    let parts = required tt (nat_le (moment_of e) log_moment_limit) (after_event t e >>= rest) now is in
+    let step = taken (after_event t e) rest now parts.1 in
+    omega (arith, told_rows events (record step.0 { count = suc t.count }) now step.2, event_rows e t step.0 step.1)

@@ -1,5 +1,5 @@
 -- A worked log: a subscriber's block after its first packet, and a horizon.
-use Rattle.std.proofs.Common.{◌≡◌, ℕ, true, List, [], ◌∷◌, ◌++◌, Ok, refl, sym, ap, subst, ◌∙◌}
+use Rattle.std.proofs.Common.{◌≡◌, ℕ, true, List, [], ◌∷◌, Ok, refl, sym, ap, ◌∙◌}
 use Rattle.aftr_base.specs.Bytes.{be16, be32, be64, be128}
 use Rattle.aftr_base.specs.Plan.{prefix6}
 use Rattle.aftr_base.specs.Telling.{told_after, in_message_order, lease_told}
@@ -12,8 +12,7 @@ use Rattle.aftr_base.specs.declared.value.Subscriber.{Subscriber}
 use Rattle.disk_journal.specs.Frames.{file_header, empty_log}
 use Rattle.disk_journal.specs.Walk.{walk_of, walk_from, walk_within, has_header, is_whole}
 use Rattle.ipfix_writer.specs.Grammar.{sets_within, message_of}
-use Rattle.nat_events.specs.Spelling.{message}
-use Rattle.lease_log.specs.Batch.{Batch, CanAppend}
+use Rattle.lease_log.specs.Batch.{CanAppend}
 use Rattle.lease_log.specs.Log.{Log, log_of}
 use Rattle.lease_log.proofs.LogSteps.{log_inj}
 

@@ -1,9 +1,9 @@
 -- What reading a log answers.
-use Rattle.std.specs.Prelude.{◌≡◌, ◌+◌, ⊤, ℕ, true, false, List, Result, Ok, Err}
+use Rattle.std.specs.Prelude.{◌≡◌, ◌+◌, ⊤, ℕ, true, false, List, Result, Ok, Err, ◌≤◌, ◌*◌, length}
 use Rattle.aftr_base.specs.Told.{nothing_told}
 use Rattle.aftr_base.specs.declared.told.Told.{Told}
 use Rattle.disk_journal.specs.Standing.{Standing}
-use Rattle.lease_log.specs.Log.{Log, log_of, log_at}
+use Rattle.lease_log.specs.Log.{Log, log_at}
 use Rattle.lease_log.specs.Sound.{IsSound}
 use Rattle.lease_log.specs.declared.reading.ToldBad.{ToldBad}
 use Rattle.lease_log.specs.declared.reading.ToldBad.TheVariants.{Damaged, Failed, NoMemory}
@@ -24,12 +24,22 @@ abbrev pub TellsFrames : List ℕ → ℕ → Result Told ToldBad → Type 0
 TellsFrames file at (Ok told) = log_at 16 nothing_told file ≡ Ok record { told = told; tail = at + 1 }
 TellsFrames file at (Err bad) = IsDamageOf (log_at 16 nothing_told file) bad
 
+-- how many rows are told
+abbrev pub number_of_rows : Told → ℕ
+number_of_rows t = length t.leases + length t.plans
+
+-- the records are few beside so many bytes of a file, and each row has one that opened it
+pub record AreFew (t : Told) (bytes : ℕ) : Type 0 where
+  pub records : 8 * t.count ≤ bytes
+  pub rows : number_of_rows t ≤ t.count
+
 -- the journal is at its tail, and no commit has failed
 pub record IsAtTail (journal : Standing) : Type 0 where
   pub at_tail : journal.at_tail ≡ true
   pub suspect : journal.suspect ≡ false
 
--- whatever the file is: what is told is sound, and the journal is at its tail
+-- whatever the file is: what is told is sound, its records are few, and the journal is at its tail
 pub record IsReadLog (read : Told × Standing) : Type 0 where
   pub sound : IsSound read.0
+  pub few : AreFew read.0 read.1.at
   pub stands : IsAtTail read.1

@@ -1,13 +1,12 @@
 -- The events of one message that is put together, and the log behind them.
-use Rattle.std.specs.Prelude.{◌≡◌, ◌⊎◌, ℕ, ◌+◌, ◌≤◌, List, [], ◌∷◌, ◌++◌, length, filter, Result, Ok}
+use Rattle.std.specs.Prelude.{◌≡◌, ◌⊎◌, ℕ, ◌+◌, ◌≤◌, List, [], ◌∷◌, ◌++◌, length, filter, Ok}
 use Rattle.aftr_base.specs.Telling.{in_message_order, told_after, is_horizon, is_plan_event, is_block}
-use Rattle.aftr_base.specs.declared.value.Moment.{Moment}
 use Rattle.aftr_base.specs.declared.told.Told.{Told}
 use Rattle.aftr_base.specs.declared.event.LogEvent.{LogEvent}
 use Rattle.plant_io.specs.Story.{Story, content, sent, IsSettled}
 use Rattle.disk_journal.specs.Frames.{body_of}
 use Rattle.nat_events.specs.Spelling.{message}
-use Rattle.lease_log.specs.Log.{Log, log_of}
+use Rattle.lease_log.specs.Log.{log_of}
 use Rattle.lease_log.specs.Sound.{HasSoundPlan}
 
 pub record Batch : Type 0 where

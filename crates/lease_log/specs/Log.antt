@@ -1,10 +1,9 @@
 -- What a log file tells, or where it is damaged.
-use Rattle.std.specs.Prelude.{◌≡◌, ℕ, ◌+◌, List, [], ◌∷◌, ◌++◌, length, Result, Ok, Err}
+use Rattle.std.specs.Prelude.{ℕ, ◌+◌, List, [], ◌∷◌, length, Result, Ok}
 use Rattle.aftr_base.specs.Attempt.{◌>>=◌, refused_as}
-use Rattle.aftr_base.specs.Telling.{in_message_order, told_after}
+use Rattle.aftr_base.specs.Telling.{told_after}
 use Rattle.aftr_base.specs.Told.{nothing_told}
 use Rattle.aftr_base.specs.declared.told.Told.{Told}
-use Rattle.aftr_base.specs.declared.event.LogEvent.{LogEvent}
 use Rattle.disk_journal.specs.Walk.{Walk, walk_from, walk_of}
 use Rattle.nat_events.specs.Reading.{events_of}
 

@@ -5,7 +5,7 @@ use Rattle.aftr_base.specs.Limits.{log_moment_limit}
 use Rattle.aftr_base.specs.Telling.{is_horizon, is_plan_event, is_block}
 use Rattle.aftr_base.specs.declared.event.LogEvent.{LogEvent}
 use Rattle.aftr_base.specs.declared.event.LogEvent.TheVariants.{Block, Horizon, Plan}
-use Rattle.ipfix_writer.specs.Grammar.{IpfixHead, IpfixSet, IpfixMessage, sets_bytes, message_bytes}
+use Rattle.ipfix_writer.specs.Grammar.{IpfixHead, IpfixSet, IpfixMessage}
 use Rattle.nat_events.specs.Grammar.{FitsRecord}
 use Rattle.nat_events.specs.Spelling.{event_record, templates}
 use Rattle.lease_log.specs.Batch.{IsWithinLimits}

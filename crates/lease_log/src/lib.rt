@@ -3,10 +3,11 @@
 
 mod applying;
 mod batch;
+mod place;
 mod reading;
+mod telling;
 
 pub use aftr_base::Told;
-pub use applying::{ApplyBad, apply};
 pub use batch::{LogBatch, append};
 pub use disk_journal::{Commit, Journal};
 pub use reading::{ToldBad, read_told};

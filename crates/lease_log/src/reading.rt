@@ -1,17 +1,18 @@
 //! Reading a log: what its messages tell, one after another.
-ghost use Rattle.std.specs.Prelude.{◌≡◌, ◌≢◌, ◌≤◌, ◌<◌, ◌+◌, ◌^◌, length, Err, IfOk, IsErrOf, OnOk};
+ghost use Rattle.std.specs.Prelude.{◌≡◌, ◌≢◌, ◌≤◌, ◌<◌, ◌+◌, ◌*◌, ◌^◌, length, Err, IfOk, IsErrOf, OnOk};
 ghost use Rattle.plant_io.specs.Causes.{Rose};
 ghost use Rattle.plant_io.specs.Story.{content, IsSettled};
 ghost use Rattle.plant_io.specs.Stops.{StopsLeave};
 ghost use Rattle.aftr_base.specs.Telling.{told_after};
 ghost use Rattle.disk_journal.specs.Attach.{AttachLeaves, IsKept};
 ghost use Rattle.disk_journal.specs.Standing.{at_first_gate};
-ghost use Rattle.lease_log.specs.Answers.{IsAtTail, IsReadLog, TellsFrames, TellsLog};
+ghost use Rattle.lease_log.specs.Answers.{AreFew, number_of_rows, IsAtTail, IsReadLog, TellsFrames, TellsLog};
 ghost use Rattle.lease_log.specs.Applying.{Follows};
 ghost use Rattle.lease_log.specs.Log.{after_message, log_of};
 ghost use Rattle.lease_log.specs.Sound.{IsSound};
 
-use crate::applying::{ApplyBad, apply};
+use crate::applying::ApplyBad;
+use crate::telling::Telling;
 use aftr_base::{List, LogEvent, Told};
 use disk_journal::{AttachBad, Frame, Journal, attach};
 use nat_events::{EventsBad, messages_are_spelled, read_events};
@@ -68,13 +69,14 @@ fn read_frames<P: Plant>(
     requires start { journal.old ≡ at_first_gate }
     ensures told { P.tells → TellsFrames (content (P.story plant.old)) journal.new.at result }
     ensures sound { IfOk result IsSound }
+    ensures few { IfOk result (λ told. AreFew told journal.new.at) }
     ensures stands { OnOk result (IsAtTail journal.new) }
     ensures same { P.tells → P.story plant.new ≡ P.story plant.old }
     ensures failed { IsErrOf result ToldBad.Failed → Rose (P.disk_faults plant.old) (P.disk_faults plant.new) }
     ensures disk_count { P.disk_faults plant.old ≤ P.disk_faults plant.new }
     ensures outlet { P.out_faults plant.new ≡ P.out_faults plant.old }
 {
-    let mut told = Told::nothing(alloc);
+    let mut told = Telling::nothing(alloc);
     let mut message = List::new(alloc);
     'frames: loop {
         match journal.next_frame(alloc, plant, &mut message) {
@@ -87,7 +89,7 @@ fn read_frames<P: Plant>(
                     Err(ApplyBad::NoMemory) => return Err(ToldBad::NoMemory),
                 }
             }
-            Frame::Tail => return Ok(told),
+            Frame::Tail => return Ok(told.into_told()),
             Frame::Damaged(offset) => return Err(ToldBad::Damaged(offset)),
             Frame::Failed => return Err(ToldBad::Failed),
             Frame::NoMemory => return Err(ToldBad::NoMemory),
@@ -96,16 +98,18 @@ fn read_frames<P: Plant>(
 }
 
 // Tells the events of a log message in its place.
-fn tell_message(alloc: Global, told: &mut Told, message: &[u8]) -> Result<(), ApplyBad>
+fn tell_message(alloc: Global, told: &mut Telling, message: &[u8]) -> Result<(), ApplyBad>
     requires fits { told.old.count + length message.now < 2 ^ 64 }
     requires sound { IsSound told.old }
     ensures told { Follows (after_message told.old message.now) told.new result }
     ensures sound { OnOk result (IsSound told.new) }
-    ensures count { OnOk result (told.new.count ≤ told.old.count + length message.now) }
+    ensures count { OnOk result (8 * told.new.count ≤ 8 * told.old.count + length message.now) }
+    ensures rows { OnOk result
+        (number_of_rows told.new + told.old.count ≤ number_of_rows told.old + told.new.count) }
 {
     messages_are_spelled();
     let mut events = List::new(alloc);
-    match read_events(alloc, told.count, message, &mut events) {
+    match read_events(alloc, told.count(), message, &mut events) {
         Ok(()) => tell_all(alloc, told, events),
         Err(EventsBad::NotOurs) => Err(ApplyBad::Refused),
         Err(EventsBad::NoMemory) => Err(ApplyBad::NoMemory),
@@ -113,12 +117,12 @@ fn tell_message(alloc: Global, told: &mut Told, message: &[u8]) -> Result<(), Ap
 }
 
 // Tells events in order.
-fn tell_all(alloc: Global, told: &mut Told, events: List<LogEvent>) -> Result<(), ApplyBad>
+fn tell_all(alloc: Global, told: &mut Telling, events: List<LogEvent>) -> Result<(), ApplyBad>
     requires { told.old.count + length events < 2 ^ 64 }
     ensures { Follows (told_after events told.old) told.new result }
 {
     for event in events.into_vec() {
-        apply(alloc, told, event)?;
+        told.tell(alloc, event)?;
     }
     Ok(())
 }

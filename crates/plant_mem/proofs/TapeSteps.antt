@@ -9,14 +9,14 @@ use Rattle.plant_mem.specs.declared.tape.Kept.{Kept}
 use Rattle.plant_mem.specs.declared.tape.Kept.TheVariants.{Wrote, Synced, Emitted}
 use Rattle.plant_mem.specs.Tape.{begun, story_of, emitted_count, TapeValue, IsTold}
 
-story_of-wrote : (kept : List Kept) (at : ℕ) (stored : Vec ℕ Global) (lost : ℕ) (bytes : List ℕ) (story : Story)
+pub story_of-wrote : (kept : List Kept) (at : ℕ) (stored : Vec ℕ Global) (lost : ℕ) (bytes : List ℕ) (story : Story)
     → story_of (kept ++ Wrote at stored lost ∷ []) bytes story ≡ wrote at stored.items lost ∷ story_of kept bytes story
 story_of-wrote [] at stored lost bytes story = refl
 story_of-wrote (Wrote a s l ∷ kept) at stored lost bytes story = story_of-wrote kept at stored lost bytes (wrote a s.items l ∷ story)
 story_of-wrote (Synced ∷ kept) at stored lost bytes story = story_of-wrote kept at stored lost bytes (synced ∷ story)
 story_of-wrote (Emitted n ∷ kept) at stored lost bytes story = story_of-wrote kept at stored lost (drop n bytes) (emit_all (take n bytes) story)
 
-story_of-synced : (kept : List Kept) (bytes : List ℕ) (story : Story)
+pub story_of-synced : (kept : List Kept) (bytes : List ℕ) (story : Story)
     → story_of (kept ++ Synced ∷ []) bytes story ≡ synced ∷ story_of kept bytes story
 story_of-synced [] bytes story = refl
 story_of-synced (Wrote a s l ∷ kept) bytes story = story_of-synced kept bytes (wrote a s.items l ∷ story)

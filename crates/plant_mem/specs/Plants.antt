@@ -1,9 +1,10 @@
--- What contracts see of the plant in memory.
-use Rattle.std.specs.Prelude.{◌≡◌, ◌⊎◌, ℕ, List, [], ◌∷◌, ◌++◌, length}
+-- What contracts see of the plants in memory.
+use Rattle.std.specs.Prelude.{◌≡◌, ◌⊎◌, ℕ, ◌≤◌, List, [], ◌∷◌, ◌++◌, length}
 use Rattle.std.specs.List.{Contains}
 use Rattle.plant_io.specs.Story.{Story}
 use Rattle.plant_mem.specs.declared.tape.PlantCall.{PlantCall}
 use Rattle.plant_mem.specs.declared.mem_plant.MemPlant.{MemPlant}
+use Rattle.plant_mem.specs.declared.stop_plant.StopPlant.{StopPlant}
 
 abbrev pub mem_story : MemPlant → Story
 mem_story plant = plant.tape.story
@@ -43,3 +44,38 @@ pub record Passes (call : PlantCall) (before now : MemPlant) : Type 0 where
 pub record Fails (call : PlantCall) (left : Story) (before now : MemPlant) : Type 0 where
   pub how : (IsPlanned before × IsKept call before now × (mem_story now ≡ left)) ⊎ ((mem_calls now ≡ mem_calls before) × (mem_story now ≡ mem_story before))
   pub fail_at : mem_fail_at now ≡ mem_fail_at before
+
+abbrev pub stop_story : StopPlant → Story
+stop_story plant = plant.tape.story
+
+-- the kinds of the calls that passed, in order
+abbrev pub stop_calls : StopPlant → List PlantCall
+stop_calls plant = plant.tape.calls
+
+abbrev pub stop_disk_faults : StopPlant → ℕ
+stop_disk_faults plant = plant.tape.disk_faults
+
+abbrev pub stop_out_faults : StopPlant → ℕ
+stop_out_faults plant = plant.tape.out_faults
+
+-- how many calls pass
+abbrev pub stop_after : StopPlant → ℕ
+stop_after plant = plant.after
+
+-- as many calls as pass have passed
+abbrev pub IsStopped : StopPlant → Type 0
+IsStopped plant = stop_after plant ≤ length (stop_calls plant)
+
+-- A call passed: the plant hadn't stopped, and the call counts no fault.
+pub record PassesBefore (call : PlantCall) (before now : StopPlant) : Type 0 where
+  pub running : ¬ IsStopped before
+  pub kept : stop_calls now ≡ stop_calls before ++ call ∷ []
+  pub disk_faults : stop_disk_faults now ≡ stop_disk_faults before
+  pub out_faults : stop_out_faults now ≡ stop_out_faults before
+  pub after : stop_after now ≡ stop_after before
+
+-- A call failed, and but for the counts of faults nothing changed.
+pub record DidNothing (before now : StopPlant) : Type 0 where
+  pub story : stop_story now ≡ stop_story before
+  pub calls : stop_calls now ≡ stop_calls before
+  pub after : stop_after now ≡ stop_after before

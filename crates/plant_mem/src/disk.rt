@@ -25,6 +25,13 @@ impl Disk {
         }
     }
 
+    /// The bytes at the start.
+    pub fn start(&self) -> &[u8]
+        ensures { result.now ≡ start_of self.now }
+    {
+        self.start.as_slice()
+    }
+
     /// The bytes now.
     pub fn bytes(&self) -> &[u8]
         ensures { result.now ≡ bytes_now self.now }
@@ -54,8 +61,8 @@ impl Disk {
     }
 }
 
-// Writes over the bytes from a place on, and past the end.
-fn overlay(file: &mut Vec<u8>, at: usize, bytes: &[u8]) -> Result<(), NoMemory>
+/// Writes over the bytes from the byte `at` on, and past the end. `NoMemory` changes nothing.
+pub fn overlay(file: &mut Vec<u8>, at: usize, bytes: &[u8]) -> Result<(), NoMemory>
     requires { at ≤ length file.old.items }
     ensures ok { OnOk result (file.new.items ≡ put at bytes.now file.old.items) }
     ensures err { OnErr result (file.new.items ≡ file.old.items) }

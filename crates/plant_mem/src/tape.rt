@@ -1,11 +1,12 @@
 // What a plant in memory keeps of its calls.
-ghost use Rattle.std.specs.Prelude.{◌≡◌, ◌≤◌, ◌-◌, [], ◌∷◌, ◌++◌, length, min, take, drop, OnOk, OnErr};
-ghost use Rattle.plant_io.specs.Story.{wrote, synced, content, sent, emit_all};
+ghost use Rattle.std.specs.Prelude.{◌≡◌, ◌≤◌, ◌-◌, [], ◌∷◌, ◌++◌, List as Items, length, min, take, drop, IfOk, OnOk, OnErr};
+ghost use Rattle.plant_io.specs.Story.{wrote, synced, content, sent, durable, emit_all};
 ghost use Rattle.plant_io.specs.Causes.{Rose, counted};
 ghost use Rattle.plant_mem.specs.declared.tape.PlantCall.TheVariants.{Size, ReadAt, WriteAt, Sync, Emit};
-ghost use Rattle.plant_mem.specs.Tape.{begun};
+ghost use Rattle.plant_mem.specs.declared.tape.Kept.{Kept};
+ghost use Rattle.plant_mem.specs.Tape.{begun, synced_bytes, Fills, IsFilled};
 
-use crate::disk::Disk;
+use crate::disk::{Disk, overlay};
 use aftr_base::{List, NoMemory};
 use plant_io::Failed;
 use std::alloc::Global;
@@ -191,5 +192,78 @@ impl Tape {
         self.kept.push(Kept::Emitted(piece.len()))?;
         self.made.push(PlantCall::Emit)?;
         Ok(())
+    }
+
+    /// The file as a read gives it.
+    pub fn copy(&self) -> Result<List<u8>, NoMemory>
+        ensures { IfOk result (λ file. file ≡ content self.now.story) }
+    {
+        let file = self.disk.bytes().to_vec(self.alloc)?;
+        Ok(List::from_vec(file))
+    }
+
+    /// The file as it was at the last sync.
+    pub fn at_last_sync(&self) -> Result<List<u8>, NoMemory>
+        ensures { IfOk result (λ file. file ≡ durable self.now.story) }
+    {
+        let mut file = self.disk.start().to_vec(self.alloc)?;
+        let mut at_sync = self.disk.start().to_vec(self.alloc)?;
+        for step in &self.kept {
+            redo(step, &mut file, &mut at_sync)?;
+        }
+        Ok(List::from_vec(at_sync))
+    }
+
+    /// The file as a read gives it, but with this byte in each place in the range of a write since the last sync.
+    pub fn filled(&self, byte: u8) -> Result<List<u8>, NoMemory>
+        ensures { IfOk result (λ image. IsFilled byte self.now.story image) }
+    {
+        let file = self.disk.bytes();
+        let mut image = file.to_vec(self.alloc)?;
+        for step in &self.kept {
+            fill(step, byte, file, &mut image);
+        }
+        Ok(List::from_vec(image))
+    }
+}
+
+// Does a step again to the file, and keeps the file at a sync.
+fn redo(step: &Kept, file: &mut Vec<u8>, at_sync: &mut Vec<u8>) -> Result<(), NoMemory>
+    ensures { OnOk result ((rest : Items Kept) → synced_bytes rest file.new.items at_sync.new.items
+        ≡ synced_bytes (step.now ∷ rest) file.old.items at_sync.old.items) }
+{
+    match step {
+        Kept::Wrote(at, bytes, _) => {
+            let inside = (*at).min(file.len());
+            overlay(file, inside, bytes)?;
+        }
+        Kept::Synced => {
+            at_sync.clear();
+            at_sync.extend_from_slice(file)?;
+        }
+        Kept::Emitted(_) => {}
+    }
+    Ok(())
+}
+
+// Fills the range of a write. A sync puts the file's bytes back.
+fn fill(step: &Kept, byte: u8, file: &[u8], image: &mut Vec<u8>)
+    requires { length image.old.items ≡ length file.now }
+    ensures length { length image.new.items ≡ length file.now }
+    ensures filled { Fills byte step.now file.now image.old.items image.new.items }
+{
+    match step {
+        Kept::Wrote(at, bytes, lost) => {
+            let end = at
+                .saturating_add(bytes.len())
+                .saturating_add(*lost)
+                .min(image.len());
+            let start = (*at).min(end);
+            for place in start..end {
+                image[place] = byte;
+            }
+        }
+        Kept::Synced => image.copy_from_slice(file),
+        Kept::Emitted(_) => {}
     }
 }

@@ -1,4 +1,4 @@
-use crate::{MemPlant, MemSink, MemSource, NoFaultSource, PlantCall};
+use crate::{MemPlant, MemSink, MemSource, NoFaultSource, Pick, PlantCall, StopPlant};
 use aftr_base::List;
 use plant_io::{Failed, Plant, Sink, Source};
 use std::test::Fail;
@@ -134,5 +134,116 @@ fn a_plant_fails_the_planned_calls(rt: HostRuntime) -> Result<(), Fail> {
         );
         assert_eq!(rt; plant.calls().len(), 10, "call {number}");
     }
+    Ok(())
+}
+
+// A stop after some calls, and what is seen of the plant then.
+struct Stop {
+    after: u64,
+    content: [u8; 3],
+    dropped: [u8; 3],
+    zeros: [u8; 3],
+    sent: usize,
+}
+
+// The calls are a size, a read, a write of 7, 8 and 9, a sync, and an emission of two bytes.
+const STOPS: [Stop; 6] = [
+    Stop {
+        after: 0,
+        content: [1, 2, 3],
+        dropped: [1, 2, 3],
+        zeros: [1, 2, 3],
+        sent: 0,
+    },
+    Stop {
+        after: 1,
+        content: [1, 2, 3],
+        dropped: [1, 2, 3],
+        zeros: [1, 2, 3],
+        sent: 0,
+    },
+    Stop {
+        after: 2,
+        content: [1, 2, 3],
+        dropped: [1, 2, 3],
+        zeros: [1, 2, 3],
+        sent: 0,
+    },
+    Stop {
+        after: 3,
+        content: [7, 8, 9],
+        dropped: [1, 2, 3],
+        zeros: [0, 0, 0],
+        sent: 0,
+    },
+    Stop {
+        after: 4,
+        content: [7, 8, 9],
+        dropped: [7, 8, 9],
+        zeros: [7, 8, 9],
+        sent: 0,
+    },
+    Stop {
+        after: 5,
+        content: [7, 8, 9],
+        dropped: [7, 8, 9],
+        zeros: [7, 8, 9],
+        sent: 2,
+    },
+];
+
+#[test]
+fn a_plant_stops_after_its_calls(rt: HostRuntime) -> Result<(), Fail> {
+    let alloc = rt.alloc();
+    let made = [
+        PlantCall::Size,
+        PlantCall::ReadAt,
+        PlantCall::WriteAt,
+        PlantCall::Sync,
+        PlantCall::Emit,
+    ];
+    for stop in &STOPS {
+        let after = stop.after;
+        let image = List::from_vec([1, 2, 3].to_vec(alloc)?);
+        let mut plant = StopPlant::new(alloc, image, after);
+        let passed = [after > 0, after > 1, after > 2, after > 3, after > 4];
+        assert_eq!(rt; call_each(&mut plant), passed, "after {after}");
+        // None passes once the plant has stopped.
+        assert_eq!(rt; call_each(&mut plant), [false; 5], "after {after}");
+        assert_eq!(rt; plant.calls(), &made[..after as usize], "after {after}");
+        assert_eq!(rt; plant.content(), stop.content.as_slice(), "after {after}");
+        assert_eq!(rt; plant.sent().len(), stop.sent, "after {after}");
+        let dropped = plant.left(Pick::Dropped)?;
+        assert_eq!(rt;
+            dropped.as_slice(),
+            stop.dropped.as_slice(),
+            "after {after}"
+        );
+        let zeros = plant.left(Pick::Zeros)?;
+        assert_eq!(rt; zeros.as_slice(), stop.zeros.as_slice(), "after {after}");
+    }
+    Ok(())
+}
+
+#[test]
+fn a_stop_leaves_what_is_picked(rt: HostRuntime) -> Result<(), Fail> {
+    let alloc = rt.alloc();
+    let image = List::from_vec([1, 2, 3, 4].to_vec(alloc)?);
+    let mut plant = StopPlant::new(alloc, image, 5);
+    assert_eq!(rt; plant.write_at(1, &[20, 30]), Ok(()));
+    assert_eq!(rt; plant.sync(), Ok(()));
+    assert_eq!(rt; plant.write_at(2, &[31, 41, 51]), Ok(()));
+    assert_eq!(rt; plant.emit(&[9]), Ok(()));
+    assert_eq!(rt; plant.write_at(0, &[10]), Ok(()));
+    // The plant has stopped, and the second byte isn't pending.
+    assert_eq!(rt; plant.write_at(1, &[21]), Err(Failed));
+    let kept = plant.left(Pick::Kept)?;
+    assert_eq!(rt; kept.as_slice(), [10, 20, 31, 41, 51].as_slice());
+    let dropped = plant.left(Pick::Dropped)?;
+    assert_eq!(rt; dropped.as_slice(), [1, 20, 30, 4].as_slice());
+    let zeros = plant.left(Pick::Zeros)?;
+    assert_eq!(rt; zeros.as_slice(), [0, 20, 0, 0, 0].as_slice());
+    let ones = plant.left(Pick::Ones)?;
+    assert_eq!(rt; ones.as_slice(), [0xFF, 20, 0xFF, 0xFF, 0xFF].as_slice());
     Ok(())
 }

@@ -4,7 +4,7 @@ ghost use Rattle.aftr_engine.specs.words.Words.{input_count, paths_for};
 
 use crate::case::Case;
 use crate::octets::{list_of, octets, words_of};
-use aftr_base::{DropCounts, List, Outcome, Word};
+use aftr_base::{DropCounts, List, Outcome, Status, Word};
 use aftr_engine::{aftr, paths_of};
 use plant_io::Source;
 use plant_mem::{MemPlant, MemSink, MemSource, NoFaultSource};
@@ -28,31 +28,65 @@ pub fn check_all<R: Abort + AllocGlobal>(rt: &R, cases: &[Case<'_>]) {
 /// Checks what a case leaves.
 pub fn check<R: Abort + AllocGlobal>(rt: &R, case: &Case<'_>) {
     let input = octets(rt, case.input);
-    let log = octets(rt, case.log);
+    let log = case.log.bytes(rt);
     check_over(rt, case, &input, &log);
 }
 
-/// Checks what each of these cases leaves where its sources are of the kind that never fails. Each starts on an empty log.
+/// Checks what each of these cases leaves where its sources are of the kind that never fails.
 pub fn check_all_without_faults<R: Abort + AllocGlobal>(rt: &R, cases: &[Case<'_>]) {
     for case in cases {
         assert!(rt; case.config_fails_at.is_empty() && case.input_fails_at.is_empty());
-        assert!(rt; case.log.is_empty());
         let input = octets(rt, case.input);
         let seen = run_without_faults(rt, case, &input);
         compare(rt, case, &input, &seen);
     }
 }
 
-/// Checks a run on an empty log, and then queries over the log that it left. None of them names a log of its own.
+/// Checks a run, and then queries over the log that it left, whatever log they name.
 pub fn check_behind<R: Abort + AllocGlobal>(rt: &R, before: &Case<'_>, queries: &[Case<'_>]) {
     let input = octets(rt, before.input);
-    assert!(rt; before.log.is_empty());
-    let seen = run(rt, before, &input, &[]);
+    let log = before.log.bytes(rt);
+    let seen = run(rt, before, &input, &log);
     compare(rt, before, &input, &seen);
     for query in queries {
-        assert!(rt; query.log.is_empty());
         check_over(rt, query, &[], seen.plant.content());
     }
+}
+
+/// Checks what a run of this input leaves by a case but for its packets and its log, which have these bytes.
+pub fn check_leaving<R: Abort + AllocGlobal>(
+    rt: &R,
+    case: &Case<'_>,
+    input: &[u8],
+    sent: &[u8],
+    log: &[u8],
+) {
+    let seen = run(rt, case, input, &case.log.bytes(rt));
+    let name = name_of(rt, case, input);
+    compare_outcome(rt, &name, case, &seen.outcome);
+    compare_text(rt, &name, "report", seen.report.written(), case.report);
+    assert_eq!(rt; seen.plant.sent(), sent, "outlet: {name}");
+    assert_eq!(rt; seen.plant.content(), log, "log: {name}");
+}
+
+/// Asks a log, which keeps its bytes, and gives what is printed.
+pub fn ask<R: Abort + AllocGlobal>(rt: &R, words: &[&str], log: &[u8]) -> MemSink {
+    let words = words_of(rt, words);
+    let mut config = NoFaultSource::new(list_of(rt, &[]));
+    let mut inputs: Vec<NoFaultSource> = Vec::new(rt.alloc());
+    let mut plant = MemPlant::new(rt.alloc(), list_of(rt, log), list_of(rt, &[]));
+    let mut report = MemSink::new(rt.alloc(), list_of(rt, &[]));
+    let outcome = call_program(
+        rt,
+        &words,
+        &mut config,
+        &mut inputs,
+        &mut plant,
+        &mut report,
+    );
+    assert!(rt; matches!(outcome.status, Status::Ok));
+    assert_eq!(rt; plant.content(), log);
+    report
 }
 
 /// How runs end over the beginnings of an input that are shorter than `end`, but for those of the rows before.
@@ -83,7 +117,7 @@ fn check_lengths<R: Abort + AllocGlobal>(
 ) {
     for len in from..end {
         assert!(rt; len <= input.len());
-        check_over(rt, case, &input[..len], &[]);
+        check_over(rt, case, &input[..len], &case.log.bytes(rt));
     }
 }
 
@@ -105,12 +139,19 @@ fn run<R: Abort + AllocGlobal>(rt: &R, case: &Case<'_>, input: &[u8], log: &[u8]
     call(rt, case, &words, &mut config, &mut inputs, log)
 }
 
-// Makes a run's call over an empty log and sources that never fail.
+// Makes a run's call over sources that never fail.
 fn run_without_faults<R: Abort + AllocGlobal>(rt: &R, case: &Case<'_>, input: &[u8]) -> Seen {
     let words = words_of(rt, case.words);
     let mut config = NoFaultSource::new(list_of(rt, case.config));
     let mut inputs = [NoFaultSource::new(list_of(rt, input))];
-    call(rt, case, &words, &mut config, &mut inputs, &[])
+    call(
+        rt,
+        case,
+        &words,
+        &mut config,
+        &mut inputs,
+        &case.log.bytes(rt),
+    )
 }
 
 fn source_of<R: Abort + AllocGlobal>(
@@ -192,7 +233,8 @@ fn compare_outcome<R: Abort + AllocGlobal>(rt: &R, name: &str, case: &Case<'_>, 
 
 fn compare_plant<R: Abort + AllocGlobal>(rt: &R, name: &str, case: &Case<'_>, seen: &MemPlant) {
     compare_octets(rt, name, "outlet", seen.sent(), case.sent);
-    compare_octets(rt, name, "log", seen.content(), case.log_after);
+    let log = case.log_after.bytes(rt);
+    assert_eq!(rt; seen.content(), log.as_slice(), "log: {name}");
     if let Some(calls) = case.calls {
         assert_eq!(rt; seen.calls(), calls, "calls: {name}");
     }

@@ -3,9 +3,10 @@
 
 use crate::case::{Case, RUN};
 use crate::driver::{check, check_all};
+use crate::logs::{Frame, LogFile};
 use crate::packets::{
-    DATAGRAM, FIRST_CLOSED, FIRST_LOGGED, FIRST_SENT, HEAD, INNER, NEXT_HEAD, OTHER, OTHER_LOGGED,
-    OTHER_SENT, PACKET,
+    CLOSED_FRAME, DATAGRAM, FIRST_CLOSED, FIRST_FRAME, FIRST_SENT, HEAD, INNER, NEXT_HEAD, OTHER,
+    OTHER_FRAME, OTHER_SENT, PACKET,
 };
 
 // A tick at the first packet's deadline, 1,300,000, closes its block.
@@ -26,11 +27,16 @@ static HOLDS: [Case<'static>; 2] = [
             "00000029 02 000000000015aadf
             4500 0020 0001 0000 3f 11 7dbe c0000208 cb007105 0600 0035 000c 36cc 61626364",
         ],
-        log_after: &[
-            FIRST_LOGGED,
-            FIRST_CLOSED,
-            "000000000015aadf 10 20010db8010001000000000000000000 38 c0000208 0600 07ff",
-        ],
+        log_after: LogFile::Frames(&[
+            FIRST_FRAME,
+            CLOSED_FRAME,
+            Frame {
+                horizon: Some("000000000015aadf 000000000015b2af"),
+                blocks: &[
+                    "000000000015aadf 10 20010db8010001000000000000000000 38 c0000208 0600 07ff",
+                ],
+            },
+        ]),
         ..RUN
     },
     Case {
@@ -42,11 +48,16 @@ static HOLDS: [Case<'static>; 2] = [
             "00000029 02 000000000015aae0
             4500 0020 0001 0000 3f 11 7dbe c0000208 cb007105 0400 0035 000c 38cc 61626364",
         ],
-        log_after: &[
-            FIRST_LOGGED,
-            FIRST_CLOSED,
-            "000000000015aae0 10 20010db8010001000000000000000000 38 c0000208 0400 05ff",
-        ],
+        log_after: LogFile::Frames(&[
+            FIRST_FRAME,
+            CLOSED_FRAME,
+            Frame {
+                horizon: Some("000000000015aae0 000000000015b2b0"),
+                blocks: &[
+                    "000000000015aae0 10 20010db8010001000000000000000000 38 c0000208 0400 05ff",
+                ],
+            },
+        ]),
         ..RUN
     },
 ];
@@ -85,15 +96,29 @@ static LEAST_FIRST: Case<'static> = Case {
         "00000029 02 000000000015aae1
         4500 0020 0001 0000 3f 11 7dbe c0000208 cb007105 0600 0035 000c 36cc 61626364",
     ],
-    log_after: &[
-        FIRST_LOGGED,
-        OTHER_LOGGED,
-        "000000000013d621 11 20010db8010000000000000000000000 38 c0000208 0400 05ff",
-        "000000000013d621 11 20010db8010001000000000000000000 38 c0000208 0600 07ff",
-        "000000000015aae0 10 20010db8010002000000000000000000 38 c0000208 0800 09ff",
-        "000000000015aae1 10 20010db8010003000000000000000000 38 c0000208 0400 05ff",
-        "000000000015aae1 10 20010db8010004000000000000000000 38 c0000208 0600 07ff",
-    ],
+    log_after: LogFile::Frames(&[
+        FIRST_FRAME,
+        OTHER_FRAME,
+        Frame {
+            horizon: None,
+            blocks: &[
+                "000000000013d621 11 20010db8010000000000000000000000 38 c0000208 0400 05ff",
+                "000000000013d621 11 20010db8010001000000000000000000 38 c0000208 0600 07ff",
+            ],
+        },
+        Frame {
+            horizon: Some("000000000015aae0 000000000015b2b0"),
+            blocks: &["000000000015aae0 10 20010db8010002000000000000000000 38 c0000208 0800 09ff"],
+        },
+        Frame {
+            horizon: None,
+            blocks: &["000000000015aae1 10 20010db8010003000000000000000000 38 c0000208 0400 05ff"],
+        },
+        Frame {
+            horizon: None,
+            blocks: &["000000000015aae1 10 20010db8010004000000000000000000 38 c0000208 0600 07ff"],
+        },
+    ]),
     ..RUN
 };
 
@@ -107,11 +132,16 @@ static OWN_BLOCKS: [Case<'static>; 2] = [
             "00000029 02 000000000013d620
             4500 0020 0001 0000 3f 11 7dbe c0000208 cb007105 0600 0035 000c 36cc 61626364",
         ],
-        log_after: &[
-            FIRST_LOGGED,
-            FIRST_CLOSED,
-            "000000000013d620 10 20010db8010000000000000000000000 38 c0000208 0600 07ff",
-        ],
+        log_after: LogFile::Frames(&[
+            FIRST_FRAME,
+            Frame {
+                horizon: Some("000000000013d620 000000000013ddf0"),
+                blocks: &[
+                    FIRST_CLOSED,
+                    "000000000013d620 10 20010db8010000000000000000000000 38 c0000208 0600 07ff",
+                ],
+            },
+        ]),
         ..RUN
     },
     Case {
@@ -123,11 +153,16 @@ static OWN_BLOCKS: [Case<'static>; 2] = [
             "00000029 02 000000000013d621
             4500 0020 0001 0000 3f 11 7dbe c0000208 cb007105 0400 0035 000c 38cc 61626364",
         ],
-        log_after: &[
-            FIRST_LOGGED,
-            FIRST_CLOSED,
-            "000000000013d621 10 20010db8010000000000000000000000 38 c0000208 0400 05ff",
-        ],
+        log_after: LogFile::Frames(&[
+            FIRST_FRAME,
+            CLOSED_FRAME,
+            Frame {
+                horizon: Some("000000000013d621 000000000013ddf1"),
+                blocks: &[
+                    "000000000013d621 10 20010db8010000000000000000000000 38 c0000208 0400 05ff",
+                ],
+            },
+        ]),
         ..RUN
     },
 ];

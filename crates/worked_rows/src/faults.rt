@@ -2,9 +2,15 @@
 
 use crate::case::{Case, ONE_PACKET, QUERY, RUN};
 use crate::driver::check_all;
-use crate::packets::{FIRST, FIRST_LOGGED, FIRST_SENT, HEAD, OTHER_LOGGED, PACKET};
+use crate::logs::LogFile;
+use crate::packets::{FIRST, FIRST_FRAME, FIRST_SENT, HEAD, OTHER_FRAME, PACKET};
 use aftr_base::DropCause;
 use plant_mem::PlantCall;
+
+// The bytes of the log of the first packet, and of one in which the first half of the frame's body stands.
+const WHOLE: usize = 164;
+
+const HALF: usize = 17 + (WHOLE - 17) / 2;
 
 // A run whose log fails, over the first packet.
 const LOG_FAILS: Case<'static> = Case {
@@ -14,51 +20,106 @@ const LOG_FAILS: Case<'static> = Case {
     ..RUN
 };
 
+// The calls of a run that reads its log: the sync, the header, and the closed gate behind it; then those of a record: the frame's
+// body, its sync, the gate, its sync, and the packet.
+const CALLS: [PlantCall; 8] = [
+    PlantCall::Sync,
+    PlantCall::ReadAt,
+    PlantCall::ReadAt,
+    PlantCall::WriteAt,
+    PlantCall::Sync,
+    PlantCall::WriteAt,
+    PlantCall::Sync,
+    PlantCall::Emit,
+];
+
 // The call that fails is the last.
-static PLANT: [Case<'static>; 5] = [
+static PLANT: [Case<'static>; 9] = [
     Case {
         name: "no call fails",
-        calls: Some(&[
-            PlantCall::Size,
-            PlantCall::WriteAt,
-            PlantCall::Sync,
-            PlantCall::Emit,
-        ]),
+        calls: Some(&CALLS),
         ..ONE_PACKET
     },
     Case {
-        name: "the size fails",
+        name: "the sync of the log that was there fails",
         plant_fails_at: &[0],
-        calls: Some(&[PlantCall::Size]),
+        calls: Some(&[PlantCall::Sync]),
         ..LOG_FAILS
     },
     Case {
-        name: "the write fails, and leaves the first half of the record",
+        name: "the read of the header fails",
         plant_fails_at: &[1],
-        log_after: &["00000000000f4240 10 20010db801000000"],
-        calls: Some(&[PlantCall::Size, PlantCall::WriteAt]),
+        calls: Some(&[PlantCall::Sync, PlantCall::ReadAt]),
         ..LOG_FAILS
     },
     Case {
-        name: "the sync fails",
+        name: "the read of a frame fails",
         plant_fails_at: &[2],
-        log_after: &[FIRST_LOGGED],
-        calls: Some(&[PlantCall::Size, PlantCall::WriteAt, PlantCall::Sync]),
+        calls: Some(&[PlantCall::Sync, PlantCall::ReadAt, PlantCall::ReadAt]),
+        ..LOG_FAILS
+    },
+    Case {
+        name: "the write of the body fails, and leaves its first half behind the closed gate",
+        plant_fails_at: &[3],
+        log_after: LogFile::Unopened(FIRST_FRAME, HALF),
+        calls: Some(&[
+            PlantCall::Sync,
+            PlantCall::ReadAt,
+            PlantCall::ReadAt,
+            PlantCall::WriteAt,
+        ]),
+        ..LOG_FAILS
+    },
+    Case {
+        name: "the sync of the body fails",
+        plant_fails_at: &[4],
+        log_after: LogFile::Unopened(FIRST_FRAME, WHOLE),
+        calls: Some(&[
+            PlantCall::Sync,
+            PlantCall::ReadAt,
+            PlantCall::ReadAt,
+            PlantCall::WriteAt,
+            PlantCall::Sync,
+        ]),
+        ..LOG_FAILS
+    },
+    Case {
+        name: "the write of the gate fails",
+        plant_fails_at: &[5],
+        log_after: LogFile::Unopened(FIRST_FRAME, WHOLE),
+        calls: Some(&[
+            PlantCall::Sync,
+            PlantCall::ReadAt,
+            PlantCall::ReadAt,
+            PlantCall::WriteAt,
+            PlantCall::Sync,
+            PlantCall::WriteAt,
+        ]),
+        ..LOG_FAILS
+    },
+    Case {
+        name: "the sync of the gate fails",
+        plant_fails_at: &[6],
+        log_after: LogFile::Frames(&[FIRST_FRAME]),
+        calls: Some(&[
+            PlantCall::Sync,
+            PlantCall::ReadAt,
+            PlantCall::ReadAt,
+            PlantCall::WriteAt,
+            PlantCall::Sync,
+            PlantCall::WriteAt,
+            PlantCall::Sync,
+        ]),
         ..LOG_FAILS
     },
     Case {
         name: "the outlet fails",
         input: &FIRST,
-        plant_fails_at: &[3],
+        plant_fails_at: &[7],
         status: "OutFault",
         report: "",
-        log_after: &[FIRST_LOGGED],
-        calls: Some(&[
-            PlantCall::Size,
-            PlantCall::WriteAt,
-            PlantCall::Sync,
-            PlantCall::Emit,
-        ]),
+        log_after: LogFile::Frames(&[FIRST_FRAME]),
+        calls: Some(&CALLS),
         ..RUN
     },
 ];
@@ -87,7 +148,7 @@ static READS: [Case<'static>; 3] = [
         name: "the input's second read fails",
         input_fails_at: &[1],
         sent: &[FIRST_SENT],
-        log_after: &[FIRST_LOGGED],
+        log_after: LogFile::Frames(&[FIRST_FRAME]),
         ..READ_FAILS
     },
 ];
@@ -101,7 +162,7 @@ static REPORTS: [Case<'static>; 3] = [
         status: "OutFault",
         report: "",
         sent: &[FIRST_SENT],
-        log_after: &[FIRST_LOGGED],
+        log_after: LogFile::Frames(&[FIRST_FRAME]),
         drops: &[(DropCause::BadPacket, 1)],
         ..RUN
     },
@@ -120,9 +181,10 @@ static REPORTS: [Case<'static>; 3] = [
 
 // A list of two leases whose report fails.
 const LIST_FAILS: Case<'static> = Case {
-    log: &[FIRST_LOGGED, OTHER_LOGGED],
+    log: LogFile::Frames(&[FIRST_FRAME, OTHER_FRAME]),
     status: "OutFault",
-    log_after: &[FIRST_LOGGED, OTHER_LOGGED],
+    report: "",
+    log_after: LogFile::Frames(&[FIRST_FRAME, OTHER_FRAME]),
     ..QUERY
 };
 
@@ -155,26 +217,34 @@ static FAULT_REPORTS: [Case<'static>; 3] = [
     },
 ];
 
-static REFUSED: [Case<'static>; 2] = [
+static REFUSED: [Case<'static>; 3] = [
     Case {
         name: "a configuration with a byte, which is refused before the log",
         config: b"\n",
         input: &FIRST,
-        log: &["08"],
+        log: LogFile::Digits(&["08"]),
         status: "BadConfig(Key { text: \"text\" })",
         report: "fault BadConfig text\n",
-        log_after: &["08"],
+        log_after: LogFile::Digits(&["08"]),
         calls: Some(&[]),
         ..RUN
     },
     Case {
-        name: "a log with a byte",
+        name: "a log that is damaged",
         input: &FIRST,
-        log: &["08"],
-        status: "AlreadyThere(1)",
-        report: "fault AlreadyThere 1\n",
-        log_after: &["08"],
-        calls: Some(&[PlantCall::Size]),
+        log: LogFile::Digits(&["08"]),
+        status: "LogDamaged(0)",
+        report: "fault LogDamaged 0\n",
+        log_after: LogFile::Digits(&["08"]),
+        ..RUN
+    },
+    Case {
+        name: "a file without a byte, which no log was made in",
+        input: &FIRST,
+        log: LogFile::Digits(&[]),
+        status: "LogDamaged(0)",
+        report: "fault LogDamaged 0\n",
+        log_after: LogFile::Digits(&[]),
         ..RUN
     },
 ];

@@ -2,8 +2,9 @@
 
 use crate::case::{Case, ONE_PACKET, RUN};
 use crate::driver::{check_all, check_all_without_faults};
+use crate::logs::LogFile;
 use crate::packets::{
-    DATAGRAM, ELSEWHERE, FIRST_LOGGED, FIRST_SENT, HEAD, INNER, NEXT_HEAD, OTHER, OTHER_LOGGED,
+    DATAGRAM, ELSEWHERE, FIRST_FRAME, FIRST_SENT, HEAD, INNER, NEXT_HEAD, OTHER, OTHER_FRAME,
     OTHER_SENT, PACKET, TUNNEL, UNSUMMED,
 };
 
@@ -29,7 +30,7 @@ static PACKETS: [Case<'static>; 4] = [
         input: &[HEAD, PACKET, NEXT_HEAD, OTHER],
         report: "records 2\nsent 2\nmarks 0\n",
         sent: &[FIRST_SENT, OTHER_SENT],
-        log_after: &[FIRST_LOGGED, OTHER_LOGGED],
+        log_after: LogFile::Frames(&[FIRST_FRAME, OTHER_FRAME]),
         ..RUN
     },
 ];

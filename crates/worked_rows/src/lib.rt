@@ -17,6 +17,12 @@ mod faults;
 #[cfg(test)]
 mod first_path;
 #[cfg(test)]
+mod logs;
+#[cfg(test)]
+mod making;
+#[cfg(test)]
+mod many_leases;
+#[cfg(test)]
 mod octets;
 #[cfg(test)]
 mod packets;
@@ -30,5 +36,9 @@ mod quotas;
 mod refusals;
 #[cfg(test)]
 mod replies;
+#[cfg(test)]
+mod restarts;
+#[cfg(test)]
+mod stops;
 #[cfg(test)]
 mod words;

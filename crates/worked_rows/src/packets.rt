@@ -1,5 +1,7 @@
 //! Packets as hexadecimal digits, by their layers, and what comes of them.
 
+use crate::logs::Frame;
+
 /// A record of 81 bytes: a packet from the softwire side, at the millisecond 1,000,000.
 pub const HEAD: &str = "00000051 01 00000000000f4240";
 
@@ -37,6 +39,12 @@ pub const FIRST_SENT: &str = "00000029 02 00000000000f4240
 pub const FIRST_LOGGED: &str = "00000000000f4240 10
     20010db8010000000000000000000000 38 c0000208 0400 05ff";
 
+/// And with it that the log has the names up to 1,002,000, two seconds behind the packet.
+pub const FIRST_FRAME: Frame<'static> = Frame {
+    horizon: Some("00000000000f4240 00000000000f4a10"),
+    blocks: &[FIRST_LOGGED],
+};
+
 /// What is logged 300 s behind the packet, at its mapping's deadline: the ports are the subscriber's no more.
 pub const FIRST_CLOSED: &str = "000000000013d620 11
     20010db8010000000000000000000000 38 c0000208 0400 05ff";
@@ -56,6 +64,18 @@ pub const OTHER_SENT: &str = "00000029 02 00000000000f4241
 /// What is logged before: the ports 1536 to 2047 are the other subscriber's.
 pub const OTHER_LOGGED: &str = "00000000000f4241 10
     20010db8010001000000000000000000 38 c0000208 0600 07ff";
+
+/// The horizon reaches that moment already.
+pub const OTHER_FRAME: Frame<'static> = Frame {
+    horizon: None,
+    blocks: &[OTHER_LOGGED],
+};
+
+/// A block closes, and no packet goes out.
+pub const CLOSED_FRAME: Frame<'static> = Frame {
+    horizon: None,
+    blocks: &[FIRST_CLOSED],
+};
 
 /// From 203.0.113.5 port 53 to 192.0.2.8 port 1024.
 pub const REPLY: &str = "4500 0020 0007 0000 40 11 7cb8 cb007105 c0000208

@@ -2,7 +2,8 @@
 
 use crate::case::{Case, ONE_PACKET, RUN};
 use crate::driver::{Cut, check_all, check_cuts};
-use crate::packets::{ELSEWHERE, FIRST_LOGGED, FIRST_SENT, HEAD, PACKET};
+use crate::logs::LogFile;
+use crate::packets::{ELSEWHERE, FIRST_FRAME, FIRST_SENT, HEAD, PACKET};
 
 // A packet, a tick, and a packet that is older than the tick: records of 85, 13 and 85 bytes.
 const THREE_RECORDS: [&str; 5] = [
@@ -22,7 +23,7 @@ const PIECES: Case<'static> = Case {
     input: &THREE_RECORDS,
     report: "records 3\nsent 2\nmarks 0\n",
     sent: &[FIRST_SENT, OLDER_SENT],
-    log_after: &[FIRST_LOGGED],
+    log_after: LogFile::Frames(&[FIRST_FRAME]),
     ..RUN
 };
 

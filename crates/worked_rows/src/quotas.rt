@@ -2,7 +2,9 @@
 ghost use Rattle.std.specs.Prelude.{◌<◌};
 
 use crate::case::{Case, RUN};
-use crate::driver::check;
+use crate::driver::check_leaving;
+use crate::logs::{Frame, LogBytes};
+use crate::octets::octets;
 use aftr_base::DropCause;
 use std::process::Abort;
 
@@ -11,15 +13,15 @@ use std::process::Abort;
 struct Many {
     input: String,
     sent: String,
-    log: String,
+    log: LogBytes,
 }
 
 impl Many {
-    fn new<R: AllocGlobal>(rt: &R) -> Self {
+    fn new<R: Abort + AllocGlobal>(rt: &R) -> Self {
         Many {
             input: String::new(rt.alloc()),
             sent: String::new(rt.alloc()),
-            log: String::new(rt.alloc()),
+            log: LogBytes::new(rt),
         }
     }
 
@@ -55,7 +57,8 @@ impl Many {
         );
     }
 
-    // The opening of the block that begins at this port, which is a multiple of the block's size.
+    // The opening of the block that begins at this port, which is a multiple of the block's size. The first one of a run comes with
+    // the horizon.
     fn add_block<R: Abort + AllocGlobal>(&mut self, rt: &R, subscriber: u16, addr: u16, first: u16)
         requires { addr < 4 }
     {
@@ -63,12 +66,19 @@ impl Many {
         let last = first | 511;
         let record = format!(in rt.alloc();
             "00000000000f4240 10
-            20010db801{subscriber:04x}000000000000000000 38 c000{low:04x} {first:04x} {last:04x}\n"
+            20010db801{subscriber:04x}000000000000000000 38 c000{low:04x} {first:04x} {last:04x}"
         );
-        add(
+        let record = record.expect(rt, "memory for a record");
+        let horizon = match subscriber {
+            0 => Some("00000000000f4240 00000000000f4a10"),
+            _ => None,
+        };
+        self.log.add(
             rt,
-            &mut self.log,
-            record.expect(rt, "memory for a record").as_str(),
+            &Frame {
+                horizon,
+                blocks: &[record.as_str()],
+            },
         );
     }
 }
@@ -78,16 +88,12 @@ fn add<R: Abort>(rt: &R, text: &mut String, more: &str) {
 }
 
 // Compares what a run of many packets leaves with this case, but for the packets and the log.
-fn check_many<'a, R: Abort + AllocGlobal>(rt: &R, case: &Case<'a>, many: &'a Many) {
-    check(
-        rt,
-        &Case {
-            input: &[many.input.as_str()],
-            sent: &[many.sent.as_str()],
-            log_after: &[many.log.as_str()],
-            ..*case
-        },
-    );
+fn check_many<R: Abort + AllocGlobal>(rt: &R, case: &Case<'_>, many: Many) {
+    let Many { input, sent, log } = many;
+    let input = octets(rt, &[input.as_str()]);
+    let sent = octets(rt, &[sent.as_str()]);
+    let log = log.finish(rt);
+    check_leaving(rt, case, &input, &sent, &log);
 }
 
 // A packet of a subscriber for each of the 126 blocks of an address.
@@ -131,7 +137,7 @@ fn a_subscriber_has_512_ports(rt: HostRuntime) {
     many.add_packet(&rt, 0, 5512);
     many.add_packet(&rt, 0, 5511);
     many.add_sent(&rt, 0, 1535);
-    check_many(&rt, &PORTS, &many);
+    check_many(&rt, &PORTS, many);
 }
 
 #[test]
@@ -141,5 +147,5 @@ fn the_pool_has_504_blocks(rt: HostRuntime) {
         add_blocks(&rt, &mut many, addr);
     }
     many.add_packet(&rt, 504, 5000);
-    check_many(&rt, &BLOCKS, &many);
+    check_many(&rt, &BLOCKS, many);
 }

@@ -2,7 +2,8 @@
 
 use crate::case::{Case, RUN};
 use crate::driver::{check, check_all};
-use crate::packets::{DATAGRAM, FIRST_LOGGED, FIRST_SENT, HEAD, INNER, PACKET, TUNNEL};
+use crate::logs::LogFile;
+use crate::packets::{DATAGRAM, FIRST_FRAME, FIRST_SENT, HEAD, INNER, PACKET, TUNNEL};
 use aftr_base::DropCause;
 use std::process::Abort;
 
@@ -217,7 +218,7 @@ static RUNS: [Case<'static>; 2] = [
         ],
         report: "records 8\nsent 1\nmarks 0\ndrop Settling 2\ndrop BadPacket 2\ndrop BadChange 2\n",
         sent: &[FIRST_SENT],
-        log_after: &[FIRST_LOGGED],
+        log_after: LogFile::Frames(&[FIRST_FRAME]),
         drops: &[
             (DropCause::Settling, 2),
             (DropCause::BadPacket, 2),

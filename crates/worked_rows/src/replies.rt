@@ -2,8 +2,9 @@
 
 use crate::case::{Case, RUN};
 use crate::driver::check_all;
+use crate::logs::LogFile;
 use crate::packets::{
-    FIRST_CLOSED, FIRST_LOGGED, FIRST_SENT, HEAD, NEXT_HEAD, PACKET, REPLY, REPLY_SENT,
+    CLOSED_FRAME, FIRST_FRAME, FIRST_SENT, HEAD, NEXT_HEAD, PACKET, REPLY, REPLY_SENT,
 };
 use aftr_base::DropCause;
 
@@ -28,7 +29,7 @@ static REPLIES: [Case<'static>; 2] = [
         input: &[HEAD, PACKET, SOON, REPLY],
         report: "records 2\nsent 2\nmarks 0\n",
         sent: &[FIRST_SENT, SOON_SENT, REPLY_SENT],
-        log_after: &[FIRST_LOGGED],
+        log_after: LogFile::Frames(&[FIRST_FRAME]),
         ..RUN
     },
     Case {
@@ -40,13 +41,13 @@ static REPLIES: [Case<'static>; 2] = [
     },
 ];
 
-/// The mapping has gone, and a second record, behind 34 bytes of the log and of 34 bytes, closes the block.
+/// The mapping has gone, and a second frame closes the block.
 pub const REPLY_AT_DEADLINE: Case<'static> = Case {
     name: "a reply at the deadline",
     input: &[HEAD, PACKET, LATE, REPLY],
     report: "records 2\nsent 1\nmarks 0\ndrop NoMapping 1\n",
     sent: &[FIRST_SENT],
-    log_after: &[FIRST_LOGGED, FIRST_CLOSED],
+    log_after: LogFile::Frames(&[FIRST_FRAME, CLOSED_FRAME]),
     drops: &[(DropCause::NoMapping, 1)],
     ..RUN
 };
@@ -57,7 +58,7 @@ static DEADLINES: [Case<'static>; 4] = [
         input: &[HEAD, PACKET, LAST, REPLY],
         report: "records 2\nsent 2\nmarks 0\n",
         sent: &[FIRST_SENT, LAST_SENT, REPLY_SENT],
-        log_after: &[FIRST_LOGGED],
+        log_after: LogFile::Frames(&[FIRST_FRAME]),
         ..RUN
     },
     REPLY_AT_DEADLINE,
@@ -67,7 +68,7 @@ static DEADLINES: [Case<'static>; 4] = [
         input: &[HEAD, PACKET, SOON, REPLY, LAST, REPLY, LATE, REPLY],
         report: "records 4\nsent 3\nmarks 0\ndrop NoMapping 1\n",
         sent: &[FIRST_SENT, SOON_SENT, REPLY_SENT, LAST_SENT, REPLY_SENT],
-        log_after: &[FIRST_LOGGED, FIRST_CLOSED],
+        log_after: LogFile::Frames(&[FIRST_FRAME, CLOSED_FRAME]),
         drops: &[(DropCause::NoMapping, 1)],
         ..RUN
     },
@@ -82,7 +83,7 @@ static DEADLINES: [Case<'static>; 4] = [
             LATE_SENT,
             REPLY_SENT,
         ],
-        log_after: &[FIRST_LOGGED],
+        log_after: LogFile::Frames(&[FIRST_FRAME]),
         ..RUN
     },
 ];

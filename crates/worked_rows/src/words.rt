@@ -2,14 +2,15 @@
 
 use crate::case::{Case, QUERY};
 use crate::driver::check_all;
+use crate::logs::LogFile;
 
 // They leave all as it is, and make no call on the log and the outlet.
 const REFUSED: Case<'static> = Case {
     name: "no command",
-    log: &["08"],
+    log: LogFile::Digits(&["08"]),
     status: "BadWords",
     report: "fault BadWords\n",
-    log_after: &["08"],
+    log_after: LogFile::Digits(&["08"]),
     calls: Some(&[]),
     ..QUERY
 };

@@ -1,5 +1,6 @@
 -- What is known where steps that may be refused gave something.
 use Rattle.std.proofs.Common.{◌≡◌, Bool, true, false, Option, Some, None, Result, Ok, Err, ok_or, refl}
+use Rattle.std.specs.Result.{OnOk, OnErr}
 use Rattle.aftr_base.specs.Attempt.{◌>>=◌, ◌>>◌, require, refused_as}
 
 -- the step before gave something
@@ -23,3 +24,8 @@ was_there None e y h = cc
 
 pub ok_inj : {A E : Type 0} (x y : A) (r : Result A E) → r ≡ Ok x → r ≡ Ok y → x ≡ y
 ok_inj x y r h k = cc
+
+-- either answer of a call
+pub either_way : {A E P Q R : Type 0} (r : Result A E) → (P → R) → (Q → R) → OnOk r P → OnErr r Q → R
+either_way (Ok x) f g p q = f p
+either_way (Err e) f g p q = g q

@@ -40,3 +40,13 @@ clock_rises at s = omega (arith, moment_clock at s)
 -- the configuration stays
 pub config_stays : (at : ℕ) (s : State) → (at_moment at s).state.config ≡ s.config
 config_stays at s = by_moment (λ (c : Closed). c.state.config ≡ s.config) at s (λ le. refl) (λ lt. refl)
+
+-- so do the floor, the horizon and the plans
+pub floor_stays : (at : ℕ) (s : State) → (at_moment at s).state.floor ≡ s.floor
+floor_stays at s = by_moment (λ (c : Closed). c.state.floor ≡ s.floor) at s (λ le. refl) (λ lt. refl)
+
+pub horizon_stays : (at : ℕ) (s : State) → (at_moment at s).state.horizon ≡ s.horizon
+horizon_stays at s = by_moment (λ (c : Closed). c.state.horizon ≡ s.horizon) at s (λ le. refl) (λ lt. refl)
+
+pub plans_stay : (at : ℕ) (s : State) → (at_moment at s).state.plans ≡ s.plans
+plans_stay at s = by_moment (λ (c : Closed). c.state.plans ≡ s.plans) at s (λ le. refl) (λ lt. refl)

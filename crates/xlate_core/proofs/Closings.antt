@@ -3,10 +3,9 @@ use Rattle.std.proofs.Common.{◌≡◌, ℕ, zero, suc, ◌+◌, ◌<◌, ◌�
 use Rattle.std.proofs.Common.{map, refl, sym, ap, ◌∙◌, append_assoc, arith}
 use Rattle.std.specs.Prelude.{filter, if◌then◌else◌}
 use Rattle.std.proofs.lemmas.List.{drop_more, take_more_set, drop-set-lt}
-use Rattle.aftr_base.specs.Row.{ended}
+use Rattle.aftr_base.specs.Row.{ended, block_event}
 use Rattle.aftr_base.specs.declared.row.LeaseRow.{LeaseRow}
 use Rattle.aftr_base.specs.declared.event.LogEvent.{LogEvent}
-use Rattle.xlate_core.specs.State.{block_event}
 use Rattle.xlate_core.specs.declared.nat_mapping.Row.{Row}
 use Rattle.xlate_core.specs.Expiry.{is_idle, with_idle_ended, closings_of}
 
@@ -16,12 +15,12 @@ use Rattle.xlate_core.specs.Expiry.{is_idle, with_idle_ended, closings_of}
 abbrev pub Becomes : ℕ → ℕ → ℕ → List Row → LeaseRow → LeaseRow → List LeaseRow → Type 0
 Becomes n m now rows l e ls = with_idle_ended n now rows (l ∷ ls) ≡ e ∷ with_idle_ended m now rows ls
 
-becomes_ended : (n now : ℕ) (rows : List Row) (l : LeaseRow) (ls : List LeaseRow) → is_idle rows l ≡ true
+pub becomes_ended : (n now : ℕ) (rows : List Row) (l : LeaseRow) (ls : List LeaseRow) → is_idle rows l ≡ true
     → Becomes (suc n) n now rows l (ended now l) ls
 becomes_ended n now rows l ls idle = ap
     (λ (b : Bool). (if b then ended now l else l) ∷ with_idle_ended (if b then n else suc n) now rows ls) idle
 
-becomes_busy : (n now : ℕ) (rows : List Row) (l : LeaseRow) (ls : List LeaseRow) → is_idle rows l ≡ false → Becomes n n now rows l l ls
+pub becomes_busy : (n now : ℕ) (rows : List Row) (l : LeaseRow) (ls : List LeaseRow) → is_idle rows l ≡ false → Becomes n n now rows l l ls
 becomes_busy zero now rows l ls busy = refl
 becomes_busy (suc n) now rows l ls busy = ap
     (λ (b : Bool). (if b then ended now l else l) ∷ with_idle_ended (if b then n else suc n) now rows ls) busy
@@ -30,12 +29,12 @@ becomes_spent : (n now : ℕ) (rows : List Row) (l : LeaseRow) (ls : List LeaseR
 becomes_spent zero now rows l ls spent = refl
 becomes_spent (suc n) now rows l ls spent = absurd (omega arith)
 
-closes_ended : (n now : ℕ) (rows : List Row) (l : LeaseRow) (ls : List LeaseRow) → is_idle rows l ≡ true
+pub closes_ended : (n now : ℕ) (rows : List Row) (l : LeaseRow) (ls : List LeaseRow) → is_idle rows l ≡ true
     → closings_of (suc n) now rows (l ∷ ls) ≡ block_event false now l ∷ closings_of n now rows ls
 closes_ended n now rows l ls idle = ap
     (λ (b : Bool). map (block_event false now) (take (suc n) (if b then l ∷ filter (is_idle rows) ls else filter (is_idle rows) ls))) idle
 
-closes_busy : (n now : ℕ) (rows : List Row) (l : LeaseRow) (ls : List LeaseRow) → is_idle rows l ≡ false
+pub closes_busy : (n now : ℕ) (rows : List Row) (l : LeaseRow) (ls : List LeaseRow) → is_idle rows l ≡ false
     → closings_of n now rows (l ∷ ls) ≡ closings_of n now rows ls
 closes_busy n now rows l ls busy = ap
     (λ (b : Bool). map (block_event false now) (take n (if b then l ∷ filter (is_idle rows) ls else filter (is_idle rows) ls))) busy

@@ -1,8 +1,8 @@
--- Who holds a place at a moment: in a valid state one subscriber at most, which then held it ever after.
-use Rattle.std.proofs.Common.{◌≡◌, ℕ, ◌≤◌, Bool, true, false, not, ◌&&◌, is_none, List, [], ◌∷◌, ◌++◌, length, map, filter, Option, Some}
-use Rattle.std.proofs.Common.{None, AllPairs, nat_le, refl, sym, ap, ◌∙◌, subst, arith}
+-- Who holds a place at a moment: where the leases are disjoint one subscriber at most, which then held it ever after.
+use Rattle.std.proofs.Common.{◌≡◌, ℕ, ◌≤◌, Bool, true, false, ◌&&◌, is_none, List, [], ◌∷◌, ◌++◌, length, map, filter, Option, Some}
+use Rattle.std.proofs.Common.{None, nat_le, refl, sym, ap, ◌∙◌, subst, arith}
 use Rattle.std.specs.List.{list_any}
-use Rattle.std.proofs.lemmas.Bool.{both_ways, and_parts, and_from, or_left, not_from_false, le-ltb, leb-true, le-leb, eqb-true, eq-eqb}
+use Rattle.std.proofs.lemmas.Bool.{both_ways, and_parts, and_from, or_left, leb-true, le-leb, eqb-true, eq-eqb}
 use Rattle.std.proofs.lemmas.List.{length-map}
 use Rattle.std.proofs.lemmas.List.Folds.{list_any-append}
 use Rattle.aftr_base.specs.Value.{ip4_eq, subscriber_eq, is_within}
@@ -14,11 +14,11 @@ use Rattle.aftr_base.specs.declared.value.Subscriber.{Subscriber}
 use Rattle.aftr_base.specs.declared.row.LeaseRow.{LeaseRow}
 use Rattle.aftr_base.proofs.Founds.{any_where}
 use Rattle.aftr_base.proofs.Pairwise.{any_zip, pairwise_from}
-use Rattle.xlate_core.specs.State.{State}
-use Rattle.xlate_core.specs.Valid.{IsValid, clash, is_lease_by}
+use Rattle.xlate_core.specs.State.{State, latest}
+use Rattle.xlate_core.specs.Valid.{AreDisjoint, IsConsistent, clash, is_lease_by, lasts_to}
 use Rattle.xlate_core.proofs.SoleItems.{AreExclusive, few_kept, one_kept}
 use Rattle.xlate_core.proofs.LeasesOver.{AreLater, Later, Stays, Ends}
-use Rattle.xlate_core.proofs.ValidExpiry.{lease_parts, over_before, here_parts, lies_here}
+use Rattle.xlate_core.proofs.ValidExpiry.{lease_parts, open_begun, lasts_at, here_parts, lies_here}
 use Rattle.xlate_core.proofs.ValidRows.{same_subscriber, lies_at}
 
 -- ---- who holds a place at a moment
@@ -35,10 +35,6 @@ abbrev pub holders : List LeaseRow → Ip4 → ℕ → ℕ → List Subscriber
 holders leases addr port at = map (λ (l : LeaseRow). l.owner) (filter (holds addr port at) leases)
 
 -- ---- two leases that hold one place at one moment clash
-
--- the end, where there is one, isn't before that moment
-abbrev lasts_at : ℕ → Option Moment → Bool
-lasts_at at u = elim u [ None ↦ true | Some until ↦ nat_le at until.0 ]
 
 open_lasts : (at : ℕ) (u : Option Moment) → is_none u ≡ true → lasts_at at u ≡ true
 open_lasts at None h = refl
@@ -72,12 +68,9 @@ holds_from {addr = addr} {port = port} {at = at} {l = l} h =
     (and_from (nat_le l.first port) (nat_le port l.last) (le-leb l.first port h.low) (le-leb port l.last h.high)))
     (and_from (nat_le l.since.0 at) (lasts_at at l.until) (le-leb l.since.0 at h.begun) h.lasts)
 
-not_over : (since at : ℕ) (u : Option Moment) → since ≤ at → lasts_at at u ≡ true → over_before since u ≡ false
-not_over since at None le h = refl
-not_over since at (Some m) le h = le-ltb m.0 since (omega (arith, leb-true at m.0 h))
-
-clash_of : (b over : Bool) → b ≡ true → over ≡ false → (b && not over) ≡ true
-clash_of b over e f = and_from b (not over) e (not_from_false over f)
+lasted : (since at : ℕ) (u : Option Moment) → since ≤ at → lasts_at at u ≡ true → lasts_at since u ≡ true
+lasted since at None le h = refl
+lasted since at (Some m) le h = le-leb since m.0 (omega (arith, le, leb-true at m.0 h))
 
 never_both : (addr : Ip4) (port at : ℕ) (l m : LeaseRow) → clash l m ≡ false → holds addr port at l ≡ true → holds addr port at m ≡ true → ⊥
 never_both addr port at l m apart h k =
@@ -89,8 +82,11 @@ never_both addr port at l m apart h k =
     let over : overlaps l m.addr m.first m.last ≡ true =
     and_from (ip4_eq l.addr m.addr && nat_le l.first m.last) (nat_le m.first l.last)
     (and_from (ip4_eq l.addr m.addr) (nat_le l.first m.last) one low) high in
-    let lasts = not_over m.since.0 at l.until y.begun x.lasts in
-    both_ways (clash l m) apart (clash_of (overlaps l m.addr m.first m.last) (over_before m.since.0 l.until) over lasts)
+    let there = lasted m.since.0 at l.until y.begun x.lasts in
+    let back = lasted l.since.0 at m.until x.begun y.lasts in
+    both_ways (clash l m) apart
+    (and_from (overlaps l m.addr m.first m.last && lasts_to m.since.0 l) (lasts_to l.since.0 m)
+    (and_from (overlaps l m.addr m.first m.last) (lasts_to m.since.0 l) over there) back)
 
 -- ---- so one name at most
 
@@ -101,7 +97,7 @@ exclusive : (addr : Ip4) (port at : ℕ) → AreExclusive LeaseRow Apart (holds 
 exclusive addr port at = record { never = never_both addr port at }
 
 -- one at most holds a place at a moment
-pub few_holders : (leases : List LeaseRow) (addr : Ip4) (port at : ℕ) → AllPairs (λ l m. clash l m ≡ false) leases
+pub few_holders : (leases : List LeaseRow) (addr : Ip4) (port at : ℕ) → AreDisjoint leases
     → length (holders leases addr port at) ≤ 1
 few_holders leases addr port at apart =
     let few = few_kept leases (exclusive addr port at) (pairwise_from Apart leases apart) in
@@ -122,7 +118,7 @@ holder_parts owner addr port at l h =
     (parts.0, same_subscriber owner l.owner parts.1)
 
 -- then that is the one holder
-pub sole_holder : (leases : List LeaseRow) (owner : Subscriber) (addr : Ip4) (port at : ℕ) → AllPairs (λ l m. clash l m ≡ false) leases
+pub sole_holder : (leases : List LeaseRow) (owner : Subscriber) (addr : Ip4) (port at : ℕ) → AreDisjoint leases
     → IsHeld leases owner addr port at → holders leases addr port at ≡ owner ∷ []
 sole_holder leases owner addr port at apart h =
     let weaker = λ (l : LeaseRow) (both : holds_for owner addr port at l ≡ true). (holder_parts owner addr port at l both).0 in
@@ -161,17 +157,17 @@ held_later {s = s} {t = t} owner addr port at later le h =
     (held_more later.kept later.more owner addr port at kept)
 
 -- a place in an open lease is held for its owner now
-place_held : (now : ℕ) (owner : Subscriber) (e : Ext) (l : LeaseRow) → is_lease_by now l ≡ true → lies_here owner e l ≡ true
+place_held : (now latest : ℕ) (owner : Subscriber) (e : Ext) (l : LeaseRow) → is_lease_by now latest l ≡ true → lies_here owner e l ≡ true
     → holds_for owner e.addr e.port now l ≡ true
-place_held now owner e l by lies =
+place_held now latest owner e l by lies =
     let x = here_parts owner e l lies in
-    let begun = (lease_parts now l by).begun in
+    let begun = open_begun x.lasts (lease_parts now latest l by) in
     let there : HoldsPlace e.addr e.port now l =
     record { addr_is = x.addr; low = x.low; high = x.high; begun = begun; lasts = open_lasts now l.until x.lasts } in
     and_from (holds e.addr e.port now l) (subscriber_eq owner l.owner) (holds_from there) x.owns
 
-pub held_now : (s : State) (owner : Subscriber) (e : Ext) → IsValid s → lies_at s.leases owner e ≡ true
+pub held_now : (s : State) (owner : Subscriber) (e : Ext) → IsConsistent s → lies_at s.leases owner e ≡ true
     → IsHeld s.leases owner e.addr e.port s.clock
 held_now s owner e v h =
-    any_where (λ l. is_lease_by s.clock l ≡ true) (lies_here owner e) (holds_for owner e.addr e.port s.clock)
-    (λ l by lies. place_held s.clock owner e l by lies) s.leases v.leases h
+    any_where (λ l. is_lease_by s.clock (latest s) l ≡ true) (lies_here owner e) (holds_for owner e.addr e.port s.clock)
+    (λ l by lies. place_held s.clock (latest s) owner e l by lies) s.leases v.leases h

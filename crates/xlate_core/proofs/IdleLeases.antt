@@ -1,14 +1,13 @@
 -- Where each open lease has the place of a row, none is idle, and none ends.
 use Rattle.std.proofs.Common.{◌≡◌, ℕ, zero, suc, ◌+◌, ◌<◌, ◌≤◌, Bool, true, false, not, cond, ◌&&◌, ◌||◌, List, [], ◌∷◌, ◌++◌, length}
-use Rattle.std.proofs.Common.{get_or, set, take, map, filter, Result, Ok, Err, refl, sym, ap, ◌∙◌, arith}
+use Rattle.std.proofs.Common.{get_or, set, take, map, filter, refl, sym, ap, ◌∙◌, arith}
 use Rattle.std.specs.Prelude.{nat_lt, nat_le, if◌then◌else◌, option_to_list}
-use Rattle.std.specs.Result.{OnOk, OnErr}
 use Rattle.std.specs.List.{list_any}
 use Rattle.std.proofs.lemmas.Bool.{and_from, or_from, or_left, or_right, le-leb, eq-eqb, ltb-true, ltb-false}
 use Rattle.std.proofs.lemmas.List.{append-nil, length-map, take_more_set}
 use Rattle.std.proofs.lemmas.List.Folds.{list_any-append}
 use Rattle.aftr_base.specs.Value.{ip4_eq, is_within, place}
-use Rattle.aftr_base.specs.Row.{is_open, ended}
+use Rattle.aftr_base.specs.Row.{is_open, ended, block_event}
 use Rattle.aftr_base.specs.declared.value.Ip4.{Ip4}
 use Rattle.aftr_base.specs.declared.value.InnerKey.{InnerKey}
 use Rattle.aftr_base.specs.declared.row.LeaseRow.{LeaseRow}
@@ -22,7 +21,7 @@ use Rattle.xlate_core.specs.declared.grant.Sender.{Sender}
 use Rattle.xlate_core.specs.nat_mapping.Rows.{expired, in_use, live_peers, touched_at}
 use Rattle.xlate_core.specs.Expiry.{Closed, at_moment, closings_of, has_idle, is_idle, with_idle_ended, closing_limit}
 use Rattle.xlate_core.specs.Grant.{after_grant, granted, peer_of, row_for}
-use Rattle.xlate_core.specs.State.{State, block_event}
+use Rattle.xlate_core.specs.State.{State}
 use Rattle.xlate_core.specs.Stepped.{HasMoved}
 use Rattle.xlate_core.proofs.Clock.{moment_raises, raised}
 use Rattle.xlate_core.proofs.ValidForwards.{after_opens, lease_of}
@@ -49,7 +48,8 @@ kept_all p (x ∷ xs) h = kept_by (p x) x (filter p xs) xs (filter_short p xs) (
 
 -- ---- rows that keep their places
 
-in_use_live : (now : ℕ) (addr : Ip4) (first last : ℕ) (rows : List Row) → in_use addr first last (map (live_peers now) rows) ≡ in_use addr first last rows
+in_use_live : (now : ℕ) (addr : Ip4) (first last : ℕ) (rows : List Row)
+    → in_use addr first last (map (live_peers now) rows) ≡ in_use addr first last rows
 in_use_live now addr first last [] = refl
 in_use_live now addr first last (r ∷ rows) =
     ap (λ (b : Bool). (ip4_eq addr r.ext.addr && is_within first last r.ext.port) || b) (in_use_live now addr first last rows)
@@ -114,7 +114,8 @@ known_on known rows rows' ls on h = known_by known (has_idle rows ls) (has_idle 
 pub known_touched : (known : Bool) (rows rows' : List Row) (ls : List LeaseRow) (at : ℕ) (p : Peer) → rows' ≡ touched_at at p rows
     → (known && has_idle rows ls) ≡ false → (known && has_idle rows' ls) ≡ false
 known_touched known rows rows' ls at p same h =
-    known_on known rows rows' ls (λ addr first last used. ap (in_use addr first last) same ∙ in_use_touched at p addr first last rows ∙ used) h
+    known_on known rows rows' ls
+    (λ addr first last used. ap (in_use addr first last) same ∙ in_use_touched at p addr first last rows ∙ used) h
 
 pub known_pushed : (known : Bool) (rows rows' : List Row) (ls : List LeaseRow) (r : Row) → rows' ≡ rows ++ r ∷ []
     → (known && has_idle rows ls) ≡ false → (known && has_idle rows' ls) ≡ false
@@ -131,11 +132,6 @@ pub known_opened : (known : Bool) (rows : List Row) (ls ls' more : List LeaseRow
 known_opened known rows ls ls' more same none h =
     known_by known (has_idle rows ls) (has_idle rows ls') (λ before. ap (has_idle rows) same ∙ list_any-append (is_idle rows) ls more
     ∙ or_from (has_idle rows ls) (has_idle rows more) before none) h
-
--- either answer of a call
-pub either_way : {A E P Q R : Type 0} (r : Result A E) → (P → R) → (Q → R) → OnOk r P → OnErr r Q → R
-either_way (Ok x) f g p q = f p
-either_way (Err e) f g p q = g q
 
 -- ---- the lease of a grant is in use by its row
 
@@ -214,8 +210,8 @@ stays_used known went now rows rows' ls same is none k h =
     none_on rows rows' ls (λ addr first last used. ap (in_use addr first last) same ∙ in_use_stays now addr first last rows all ∙ used)
     (known_true known (has_idle rows ls) k h)
 
-pub moved_quietly : (at : ℕ) (s s' : State) (log : List LogEvent) → s.clock < at → s' ≡ raised at s → has_idle (expired at s.rows) s.leases ≡ false
-    → HasMoved (at_moment at s) s' log log
+pub moved_quietly : (at : ℕ) (s s' : State) (log : List LogEvent) → s.clock < at → s' ≡ raised at s
+    → has_idle (expired at s.rows) s.leases ≡ false → HasMoved (at_moment at s) s' log log
 moved_quietly at s s' log lt is none =
     let to = raised at s in
     let leases = none_ends closing_limit at to.rows s.leases none in

@@ -1,11 +1,11 @@
 -- What becomes of leases over a run: each stays as it is, or ends once, and new ones stand behind them.
-use Rattle.std.proofs.Common.{◌≡◌, ℕ, ◌<◌, ◌≤◌, Bool, true, false, not, ◌&&◌, List, [], ◌∷◌, ◌++◌, length, get_or, Option, Some, None}
-use Rattle.std.proofs.Common.{IfSome, is_none, All, refl, sym, ap, ◌∙◌, subst, append_assoc, append-nil, arith}
+use Rattle.std.proofs.Common.{◌≡◌, ℕ, ◌<◌, ◌≤◌, true, List, [], ◌∷◌, ◌++◌, length, get_or, Option, Some, None}
+use Rattle.std.proofs.Common.{IfSome, All, refl, sym, ap, ◌∙◌, subst, append_assoc, append-nil, arith}
 use Rattle.std.specs.Prelude.{option_to_list}
 use Rattle.std.specs.List.{AllZip}
 use Rattle.std.proofs.lemmas.Bool.{true≢false}
 use Rattle.std.proofs.lemmas.List.Elements.{All-nil, All-cons, All-append, All-weaker}
-use Rattle.aftr_base.specs.Row.{is_open, ended, overlaps}
+use Rattle.aftr_base.specs.Row.{is_open, ended}
 use Rattle.aftr_base.specs.declared.event.Event.{Event}
 use Rattle.aftr_base.specs.declared.row.LeaseRow.{LeaseRow}
 use Rattle.aftr_base.specs.declared.value.Moment.{Moment}
@@ -16,13 +16,12 @@ use Rattle.xlate_core.specs.nat_mapping.Rows.{expired}
 use Rattle.xlate_core.specs.Expiry.{Closed, at_moment, closing_limit, leases_ended, with_idle_ended}
 use Rattle.xlate_core.specs.State.{State, Step}
 use Rattle.xlate_core.specs.Step.{step}
-use Rattle.xlate_core.specs.Valid.{clash}
 use Rattle.xlate_core.specs.Run.{run}
 use Rattle.xlate_core.proofs.Openings.{Opens, opens_step}
 use Rattle.xlate_core.proofs.WirePlaces.{IsNew}
 use Rattle.xlate_core.proofs.Zips.{zip_at, zip_both, zip_parts, zip_weaker}
 use Rattle.xlate_core.proofs.Clock.{by_moment, raised}
-use Rattle.xlate_core.proofs.ValidExpiry.{MayEnd, Lasts, Idle, idle_end, idle_open, over_before}
+use Rattle.xlate_core.proofs.ValidExpiry.{MayEnd, Lasts, Idle, idle_end, idle_open}
 use Rattle.xlate_core.proofs.ValidStates.{step_accepted}
 
 -- ---- one lease
@@ -150,24 +149,20 @@ later_opened {s = s} {t = t} opens = record {
   began = one_began s.clock opens.lease opens.new;
 }
 
+later_raised : {s t : State} (horizon : ℕ) → AreLater s t → AreLater s (record t { horizon = horizon })
+later_raised horizon later = record {
+  clock = later.clock;
+  kept = later.kept;
+  more = later.more;
+  leases = later.leases;
+  became = later.became;
+  began = later.began;
+}
+
 pub later_step : (s : State) (e : Event) → is_accepted s.config ≡ true → AreLater s (step s e).state
-later_step s e ok = later_then (later_moment e.at.0 s) (later_opened (opens_step s e ok))
+later_step s e ok =
+    later_then (later_moment e.at.0 s) (later_raised (step s e).state.horizon (later_opened (opens_step s e ok)))
 
 pub later_run : (s : State) (events : List Event) → is_accepted s.config ≡ true → AreLater s (run s events).state
 later_run s [] ok = later_same s
 later_run s (e ∷ es) ok = later_then (later_step s e ok) (later_run (step s e).state es (step_accepted s e ok))
-
--- ---- two leases
-
-apart_by : (o over : Bool) → (o && not over) ≡ false → over ≡ false → o ≡ false
-apart_by true true is past = past
-apart_by true false is past = is
-apart_by false over is past = refl
-
-not_over : (at : ℕ) (u : Option Moment) → is_none u ≡ true → over_before at u ≡ false
-not_over at None lasts = refl
-not_over at (Some m) lasts = absurd (true≢false (sym lasts))
-
--- an open lease overlaps no later one
-pub apart : (l m : LeaseRow) → clash l m ≡ false → is_open l ≡ true → overlaps l m.addr m.first m.last ≡ false
-apart l m free lasts = apart_by (overlaps l m.addr m.first m.last) (over_before m.since.0 l.until) free (not_over m.since.0 l.until lasts)

@@ -2,10 +2,15 @@ pub mod Attempts
 pub mod Clock
 pub mod Closings
 pub mod Datagrams
+pub mod Deadlines
+pub mod Disjoint
 pub mod Holders
 pub mod IdleLeases
+pub mod KeptTold
 pub mod LeasesOver
 pub mod LogNumbers
+pub mod LogTells
+pub mod Middles
 pub mod Openings
 pub mod PacketSources
 pub mod Packets
@@ -15,6 +20,7 @@ pub mod Reached
 pub mod Runs
 pub mod Sending
 pub mod SoleItems
+pub mod Tellings
 pub mod Treatments
 pub mod Usages
 pub mod ValidExpiry

@@ -1,5 +1,6 @@
 -- The numbers of leases and of log events fit the fields of the log.
-use Rattle.std.proofs.Common.{◌≡◌, ℕ, ◌^◌, ◌<◌, ◌≤◌, Bool, true, false, List, [], ◌∷◌, map, take, filter, Option, Some, None, IfSome, All}
+use Rattle.std.proofs.Common.{◌≡◌, ℕ, ◌+◌, ◌^◌, ◌<◌, ◌≤◌, Bool, true, false, List, [], ◌∷◌, map, take, filter, Option, Some, None, IfSome}
+use Rattle.std.proofs.Common.{All}
 use Rattle.std.proofs.Common.{nat_le, sym, subst, arith}
 use Rattle.std.specs.Prelude.{option_to_list}
 use Rattle.std.proofs.lemmas.Bool.{and_parts, leb-true}
@@ -12,19 +13,24 @@ use Rattle.aftr_base.specs.declared.row.LeaseRow.{LeaseRow}
 use Rattle.aftr_base.specs.declared.value.Ip4.{Ip4}
 use Rattle.aftr_base.specs.declared.value.Moment.{Moment}
 use Rattle.aftr_base.specs.declared.value.Subscriber.{Subscriber}
+use Rattle.aftr_base.specs.Told.{end_of}
+use Rattle.aftr_base.specs.Value.{moment}
+use Rattle.aftr_base.specs.declared.told.Told.{Told}
+use Rattle.cfg_text.proofs.Facts.{facts}
 use Rattle.cfg_text.specs.declared.config.Config.{Config}
 use Rattle.cfg_text.specs.Accepted.{is_accepted}
 use Rattle.xlate_core.specs.declared.nat_mapping.Row.{Row}
 use Rattle.xlate_core.specs.nat_mapping.Rows.{expired}
 use Rattle.xlate_core.specs.Expiry.{Closed, is_idle, closings_of, closing_limit, at_moment}
-use Rattle.xlate_core.specs.State.{State, block_event}
-use Rattle.xlate_core.specs.Step.{step, log_of}
-use Rattle.xlate_core.specs.Valid.{is_lease_by}
+use Rattle.aftr_base.specs.Row.{block_event}
+use Rattle.xlate_core.specs.State.{State, latest, reach_of}
+use Rattle.xlate_core.specs.Step.{step, log_of, needs_horizon, promise_by}
+use Rattle.xlate_core.specs.Valid.{IsStart, is_lease_by}
 use Rattle.xlate_core.specs.Run.{run, start}
-use Rattle.xlate_core.proofs.Openings.{before_of, opens_step}
+use Rattle.xlate_core.proofs.Openings.{before_of, opens_step, own_of}
 use Rattle.xlate_core.proofs.Runs.{step_closings}
-use Rattle.xlate_core.proofs.ValidExpiry.{lease_parts, ends_by}
-use Rattle.xlate_core.proofs.ValidStates.{AreBy, run_clock_most, step_clock_most}
+use Rattle.xlate_core.proofs.ValidExpiry.{lease_parts, lease_since, ends_by}
+use Rattle.xlate_core.proofs.ValidStates.{AreBy, moment_accepted, run_clock_most, run_floor, step_clock_most}
 use Rattle.xlate_core.proofs.Clock.{by_moment, moment_clock}
 use Rattle.xlate_core.proofs.WirePlaces.{IsNew, IsOnWire}
 use Rattle.xlate_core.proofs.Reached.{IsReached, reached_from, reached_start, reached_step}
@@ -41,34 +47,38 @@ pub record FitsLease (limit : ℕ) (l : LeaseRow) : Type 0 where
   pub since : l.since.0 ≤ limit
   pub until : IfSome l.until (λ (u : Moment). (l.since.0 ≤ u.0) × (u.0 ≤ limit))
 
-ends_fit : (since now limit : ℕ) (u : Option Moment) → now ≤ limit → ends_by since now u ≡ true
+ends_fit : (since now latest limit : ℕ) (u : Option Moment) → latest ≤ limit → ends_by since now latest u ≡ true
     → IfSome u (λ (m : Moment). (since ≤ m.0) × (m.0 ≤ limit))
-ends_fit since now limit None le h = tt
-ends_fit since now limit (Some m) le h =
-    let both = and_parts (nat_le since m.0) (nat_le m.0 now) h in
-    (leb-true since m.0 both.0, omega (arith, leb-true m.0 now both.1, le))
+ends_fit since now latest limit None le h = tt
+ends_fit since now latest limit (Some m) le h =
+    let both = and_parts (nat_le since m.0) (nat_le m.0 latest) h in
+    (leb-true since m.0 both.0, omega (arith, leb-true m.0 latest both.1, le))
 
-lease_fits : (limit now : ℕ) (l : LeaseRow) → now ≤ limit → is_lease_by now l ≡ true → IsOnWire l → FitsLease limit l
-lease_fits limit now l le by wire =
-    let x = lease_parts now l by in
+lease_fits : (limit now latest : ℕ) (l : LeaseRow) → now ≤ latest → latest ≤ limit → is_lease_by now latest l ≡ true → IsOnWire l
+    → FitsLease limit l
+lease_fits limit now latest l by le h wire =
+    let x = lease_parts now latest l h in
     record {
       owner = wire.owner;
       addr = wire.addr;
       first = omega (arith, wire.range, wire.last);
       last = wire.last;
       range = wire.range;
-      since = omega (arith, x.begun, le);
-      until = ends_fit l.since.0 now limit l.until le x.over;
+      since = omega (arith, lease_since by x, le);
+      until = ends_fit l.since.0 now latest limit l.until le x.over;
     }
 
-pub leases_fit : (limit : ℕ) (s : State) → IsReached s → s.clock ≤ limit → All (FitsLease limit) s.leases
-leases_fit limit s h le = λ k d lt. lease_fits limit s.clock _ le (h.valid.leases k d lt) (h.wire k d lt)
+pub leases_fit : (limit : ℕ) (s : State) → IsReached s → latest s ≤ limit → All (FitsLease limit) s.leases
+leases_fit limit s h le = λ k d lt. lease_fits limit s.clock (latest s) _ (omega arith) le (h.consistent.leases k d lt) (h.wire k d lt)
 
 -- those of each state of a run
-pub fit_from : (limit : ℕ) (c : Config) (events : List Event) → is_accepted c ≡ true → AreBy limit events
-    → All (FitsLease limit) (run (start c) events).state.leases
-fit_from limit c events ok by =
-    leases_fit limit (run (start c) events).state (reached_from c events ok) (run_clock_most limit (start c) events (omega arith) by)
+pub fit_from : {c : Config} {t : Told} (limit : ℕ) (events : List Event) → IsStart c t → end_of t ≤ limit → AreBy limit events
+    → All (FitsLease limit) (run (start c t) events).state.leases
+fit_from {c = c} {t = t} limit events h told by =
+    let s = start c t in
+    let end = (run s events).state in
+    let late : latest end ≤ limit = omega (arith, run_clock_most limit s events (omega arith) by, run_floor s events, told) in
+    leases_fit limit end (reached_from events h) late
 
 -- ---- log events
 
@@ -81,10 +91,15 @@ pub record FitsBlockEvent (limit : ℕ) (o : Subscriber) (a : Ip4) (from to : �
   pub range : from ≤ to
   pub at : m.0 ≤ limit
 
--- nothing but blocks is logged
+-- a moment up to this one, and one that lies ahead of it by at most the greatest time that a configuration has for that
+pub record FitsHorizon (limit : ℕ) (m to : Moment) : Type 0 where
+  pub at : m.0 ≤ limit
+  pub reach : to.0 ≤ limit + 3600000
+
+-- nothing but blocks and horizons is logged
 abbrev pub FitsEvent : ℕ → LogEvent → Type 0
 FitsEvent limit (Block opens owner addr first last at) = FitsBlockEvent limit owner addr first last at
-FitsEvent limit (Horizon at reach) = ⊥
+FitsEvent limit (Horizon at reach) = FitsHorizon limit at reach
 FitsEvent limit (Plan at spec) = ⊥
 
 pub event_fits : (limit : ℕ) (opens : Bool) (now : ℕ) (l : LeaseRow) → now ≤ limit → IsOnWire l → FitsEvent limit (block_event opens now l)
@@ -119,6 +134,14 @@ opening_fits : (limit now : ℕ) (o : Option LeaseRow) → now ≤ limit → IfS
 opening_fits limit now None le new = All-nil (FitsEvent limit)
 opening_fits limit now (Some l) le new = events_fit limit true now (l ∷ []) le (All-cons IsOnWire l [] new.fits (All-nil IsOnWire))
 
+promise_fits : (limit : ℕ) (raised : Bool) (s : State) → is_accepted s.config ≡ true → s.clock ≤ limit
+    → All (FitsEvent limit) (promise_by raised s)
+promise_fits limit false s ok le = All-nil (FitsEvent limit)
+promise_fits limit true s ok le =
+    let fits : FitsHorizon limit (moment s.clock) (moment (reach_of s)) =
+    record { at = le; reach = omega (arith, le, (facts s.config ok).horizon_most) } in
+    All-cons (FitsEvent limit) (Horizon (moment s.clock) (moment (reach_of s))) [] fits (All-nil (FitsEvent limit))
+
 -- so are the numbers of what a step logs
 pub log_step : (limit : ℕ) (s : State) (e : Event) → IsReached s → s.clock ≤ limit → e.at.0 ≤ limit
     → All (FitsEvent limit) (log_of (step s e))
@@ -129,7 +152,11 @@ log_step limit s e h le at =
     let opens = opens_step s e h.accepted in
     let closed = subst (All (FitsEvent limit)) (sym (step_closings s e)) (closed_fit limit e.at.0 s at h.wire) in
     let opened = subst (All (FitsEvent limit)) (sym opens.openings) (opening_fits limit now opens.lease by opens.new) in
-    All-append (FitsEvent limit) t.closings t.openings closed opened
+    let own = own_of s e in
+    let ok = subst (λ (c : Config). is_accepted c ≡ true) (sym opens.config) (moment_accepted e.at.0 s h.accepted) in
+    let promised = promise_fits limit (needs_horizon own) own.state ok (omega (arith, opens.clock, by)) in
+    All-append (FitsEvent limit) t.closings t.openings closed
+    (All-append (FitsEvent limit) (promise_by (needs_horizon own) own.state) own.openings promised opened)
 
 pub log_run : (limit : ℕ) (s : State) (events : List Event) → IsReached s → s.clock ≤ limit → AreBy limit events
     → All (FitsEvent limit) (run s events).log
@@ -142,6 +169,6 @@ log_run limit s (e ∷ es) h le by =
     All-append (FitsEvent limit) (log_of t) (run t.state es).log (log_step limit s e h le now) later
 
 -- and of what a run does
-pub log_from : (limit : ℕ) (c : Config) (events : List Event) → is_accepted c ≡ true → AreBy limit events
-    → All (FitsEvent limit) (run (start c) events).log
-log_from limit c events ok by = log_run limit (start c) events (reached_start c ok) (omega arith) by
+pub log_from : {c : Config} {t : Told} (limit : ℕ) (events : List Event) → IsStart c t → AreBy limit events
+    → All (FitsEvent limit) (run (start c t) events).log
+log_from {c = c} {t = t} limit events h by = log_run limit (start c t) events (reached_start h) (omega arith) by

@@ -6,7 +6,8 @@ use Rattle.aftr_base.specs.declared.event.EventKind.{EventKind}
 use Rattle.aftr_base.specs.declared.row.LeaseRow.{LeaseRow}
 use Rattle.cfg_text.specs.Accepted.{is_accepted}
 use Rattle.xlate_core.specs.Expiry.{at_moment}
-use Rattle.xlate_core.specs.State.{State, Step, block_event}
+use Rattle.aftr_base.specs.Row.{block_event}
+use Rattle.xlate_core.specs.State.{State, Step}
 use Rattle.xlate_core.specs.Step.{treatment}
 use Rattle.xlate_core.proofs.Treatments.{by_way}
 use Rattle.xlate_core.proofs.ValidStates.{grant_out, moment_accepted}

@@ -9,8 +9,8 @@ use Rattle.aftr_base.specs.declared.value.Side.TheVariants.{Softwire as Softwire
 use Rattle.aftr_base.specs.declared.row.LeaseRow.{LeaseRow}
 use Rattle.aftr_base.specs.declared.event.Event.{Event}
 use Rattle.aftr_base.specs.declared.event.EventKind.{EventKind}
+use Rattle.aftr_base.specs.declared.told.Told.{Told}
 use Rattle.cfg_text.specs.declared.config.Config.{Config}
-use Rattle.cfg_text.specs.Accepted.{is_accepted}
 use Rattle.xlate_core.specs.declared.grant.Grant.{Grant}
 use Rattle.xlate_core.specs.declared.step_out.Item.{Item}
 use Rattle.xlate_core.specs.State.{State, Step}
@@ -19,10 +19,11 @@ use Rattle.xlate_core.specs.Outbound.{Outbound}
 use Rattle.xlate_core.specs.Expiry.{at_moment}
 use Rattle.xlate_core.specs.Step.{step, treatment, sent_out, item, delivered_bytes}
 use Rattle.xlate_core.specs.Run.{run, start}
-use Rattle.xlate_core.specs.Valid.{IsValid}
+use Rattle.xlate_core.specs.Valid.{AreDisjoint, IsConsistent, IsStart}
+use Rattle.xlate_core.proofs.Disjoint.{disjoint_run}
 use Rattle.xlate_core.proofs.Holders.{IsHeld, holders, held_later, held_now, sole_holder}
 use Rattle.xlate_core.proofs.LeasesOver.{AreLater, later_run}
-use Rattle.xlate_core.proofs.Reached.{IsReached, reached_moment, reached_run, reached_start, reached_step}
+use Rattle.xlate_core.proofs.Reached.{IsReached, reached_moment, reached_start, reached_step}
 use Rattle.xlate_core.proofs.ValidForwards.{place_granted}
 use Rattle.xlate_core.proofs.ValidStates.{grant_out}
 use Rattle.xlate_core.proofs.WirePlaces.{address_out, place_fits, port_out, wire_grant}
@@ -45,7 +46,7 @@ source_out : {s : State} {bytes : List ℕ} {got : Outbound} {g : Grant} → IsR
 source_out {s = s} {got = got} {g = g} h by =
     let after = (sent_out s got g).state.leases in
     let grant = grant_out h.accepted by in
-    let there = place_granted grant h.valid in
+    let there = place_granted grant h.consistent in
     let fits = place_fits after got.who.owner g.place (wire_grant grant h.wire) there in
     let addr = address_out g.place got.datagram fits.0 in
     let port = port_out g.place got.datagram (sent_outward by).whole fits.1 in
@@ -105,18 +106,18 @@ kept_later {s = s} {t = t} {i = i} later h = record {
   held = later_by s t i.at.0 (source_of i.bytes) i.owner later h.sent h.held;
 }
 
-now_by : (s : State) (at : ℕ) (e : Ext) (o : Option Subscriber) → at ≡ s.clock → IsValid s
+now_by : (s : State) (at : ℕ) (e : Ext) (o : Option Subscriber) → at ≡ s.clock → IsConsistent s
     → IfSome o (λ (owner : Subscriber). lies_at s.leases owner e ≡ true) → IsHeldAt s.leases at e o
 now_by s at e None now v h = tt
 now_by s at e (Some owner) now v h =
     subst (λ (n : ℕ). IsHeld s.leases owner e.addr e.port n) (sym now) (held_now s owner e v h)
 
-pub kept_now : (s : State) (i : Item) → IsValid s → IsAt s.clock i → IsFromLease s.leases i → IsKept s i
+pub kept_now : (s : State) (i : Item) → IsConsistent s → IsAt s.clock i → IsFromLease s.leases i → IsKept s i
 kept_now s i v now h = record { sent = omega (arith, now); held = now_by s i.at.0 (source_of i.bytes) i.owner now v h }
 
 pub kept_step : (s : State) (e : Event) → IsReached s → All (IsKept (step s e).state) (step s e).items
 kept_step s e h =
-    let v = (reached_step s e h).valid in
+    let v = (reached_step s e h).consistent in
     let from = source_step s e h in
     let now = now_step s e in
     λ k d lt. kept_now (step s e).state _ v (now k d lt) (from k d lt)
@@ -137,21 +138,22 @@ abbrev pub IsNamed : List LeaseRow → Item → Type 0
 IsNamed leases i =
     IfSome i.owner (λ (owner : Subscriber). holders leases (source_of i.bytes).addr (source_of i.bytes).port i.at.0 ≡ owner ∷ [])
 
-named_by : (s : State) (at : ℕ) (e : Ext) (o : Option Subscriber) → IsValid s → IsHeldAt s.leases at e o
-    → IfSome o (λ (owner : Subscriber). holders s.leases e.addr e.port at ≡ owner ∷ [])
-named_by s at e None v h = tt
-named_by s at e (Some owner) v h = sole_holder s.leases owner e.addr e.port at v.disjoint h
+named_by : (leases : List LeaseRow) (at : ℕ) (e : Ext) (o : Option Subscriber) → AreDisjoint leases → IsHeldAt leases at e o
+    → IfSome o (λ (owner : Subscriber). holders leases e.addr e.port at ≡ owner ∷ [])
+named_by leases at e None apart h = tt
+named_by leases at e (Some owner) apart h = sole_holder leases owner e.addr e.port at apart h
 
-pub kept_named : (s : State) (i : Item) → IsValid s → IsKept s i → IsNamed s.leases i
-kept_named s i v h = named_by s i.at.0 (source_of i.bytes) i.owner v h.held
+pub kept_named : (s : State) (i : Item) → AreDisjoint s.leases → IsKept s i → IsNamed s.leases i
+kept_named s i apart h = named_by s.leases i.at.0 (source_of i.bytes) i.owner apart h.held
 
-pub names_run : (s : State) (events : List Event) → IsReached s → All (IsNamed (run s events).state.leases) (run s events).items
-names_run s events h =
+pub names_run : (s : State) (events : List Event) → IsReached s → AreDisjoint s.leases
+    → All (IsNamed (run s events).state.leases) (run s events).items
+names_run s events h apart =
     let end = run s events in
-    let v = (reached_run s events h).valid in
-    All-weaker (IsKept end.state) (IsNamed end.state.leases) (λ i kept. kept_named end.state i v kept) end.items (kept_run s events h)
+    let after = disjoint_run s events h.accepted apart in
+    All-weaker (IsKept end.state) (IsNamed end.state.leases) (λ i kept. kept_named end.state i after kept) end.items (kept_run s events h)
 
--- from the start on
-pub names_from : (c : Config) (events : List Event) → is_accepted c ≡ true
-    → All (IsNamed (run (start c) events).state.leases) (run (start c) events).items
-names_from c events ok = names_run (start c) events (reached_start c ok)
+-- from the start on, where no two leases of the log share a port at a moment
+pub names_from : {c : Config} {t : Told} (events : List Event) → IsStart c t → AreDisjoint t.leases
+    → All (IsNamed (run (start c t) events).state.leases) (run (start c t) events).items
+names_from {c = c} {t = t} events h apart = names_run (start c t) events (reached_start h) apart

@@ -1,7 +1,7 @@
 -- Runs, one record after another, and how much comes of them.
 use Rattle.std.proofs.Common.{◌≡◌, ℕ, ◌*◌, ◌≤◌, true, false, List, [], ◌∷◌, ◌++◌, length, refl, sym, ap, ◌∙◌, arith, append_assoc}
 use Rattle.std.proofs.Common.{length-append}
-use Rattle.std.specs.Prelude.{Option, Some, None, option_to_list, filter, take}
+use Rattle.std.specs.Prelude.{Bool, Option, Some, None, option_to_list, filter, take}
 use Rattle.std.proofs.lemmas.List.{append-nil, length-take, length-map}
 use Rattle.aftr_base.specs.declared.event.Event.{Event}
 use Rattle.aftr_base.specs.declared.event.EventKind.{EventKind}
@@ -11,11 +11,12 @@ use Rattle.aftr_base.specs.declared.row.LeaseRow.{LeaseRow}
 use Rattle.xlate_core.specs.declared.nat_mapping.Row.{Row}
 use Rattle.xlate_core.specs.declared.grant.Grant.{Grant}
 use Rattle.xlate_core.specs.declared.step_out.Item.{Item}
-use Rattle.xlate_core.specs.State.{State, Step, block_event}
+use Rattle.aftr_base.specs.Row.{block_event}
+use Rattle.xlate_core.specs.State.{State, Step}
 use Rattle.xlate_core.specs.Grant.{opening_events}
 use Rattle.xlate_core.specs.nat_mapping.Rows.{expired}
 use Rattle.xlate_core.specs.Expiry.{Closed, is_idle, closings_of, at_moment}
-use Rattle.xlate_core.specs.Step.{step, treatment, log_of}
+use Rattle.xlate_core.specs.Step.{step, treatment, log_of, needs_horizon, promise_by}
 use Rattle.xlate_core.specs.Run.{Run, run}
 use Rattle.xlate_core.proofs.Clock.{by_moment}
 use Rattle.xlate_core.proofs.Treatments.{by_way}
@@ -66,12 +67,13 @@ run_push s seen e =
       drops = whole.drops ∙ ap (λ (l : List DropCause). before.drops ++ l) (append-nil (option_to_list t.drop));
     }
 
--- ---- a record gives at most one packet, closes at most 512 leases and opens at most one, and is dropped at most once
+-- ---- a record gives at most one packet, closes at most 512 leases, raises the horizon once and opens one lease at most, and is
+-- dropped at most once
 
 pub record IsSmall (t : Step) : Type 0 where
   pub items : length t.items ≤ 1
   pub closings : length t.closings ≤ 512
-  pub openings : length t.openings ≤ 1
+  pub openings : length t.openings ≤ 2
   pub drops : length (option_to_list t.drop) ≤ 1
 
 -- the record's own treatment closes nothing
@@ -112,18 +114,32 @@ step_closings s e =
     let before = at_moment e.at.0 s in
     ap (λ (l : List LogEvent). before.closings ++ l) (lone_treated before.state e.bytes e.kind).closings ∙ append-nil before.closings
 
+-- what is promised on the way, and what the record's own treatment opens behind that
+abbrev own_of : State → Event → Step
+own_of s e = treatment (at_moment e.at.0 s).state e.kind e.bytes
+
+abbrev pub promises_of : State → Event → List LogEvent
+promises_of s e = promise_by (needs_horizon (own_of s e)) (own_of s e).state
+
+promised_once : (raised : Bool) (s : State) → length (promise_by raised s) ≤ 1
+promised_once true s = omega arith
+promised_once false s = omega arith
+
+pub one_promise : (s : State) (e : Event) → length (promises_of s e) ≤ 1
+one_promise s e = promised_once (needs_horizon (own_of s e)) (own_of s e).state
+
 pub small_step : (s : State) (e : Event) → IsSmall (step s e)
 small_step s e =
     let own = lone_treated (at_moment e.at.0 s).state e.bytes e.kind in
     record {
       items = own.items;
       closings = omega (arith, few_closed e.at.0 s, ap length (step_closings s e));
-      openings = own.openings;
+      openings = omega (arith, length-append (promises_of s e) (own_of s e).openings, one_promise s e, own.openings);
       drops = own.drops;
     }
 
 -- what the log is told of one record
-pub short_log : (s : State) (e : Event) → length (log_of (step s e)) ≤ 513
+pub short_log : (s : State) (e : Event) → length (log_of (step s e)) ≤ 514
 short_log s e =
     let t = step s e in
     let small = small_step s e in
@@ -133,7 +149,7 @@ short_log s e =
 
 pub record IsShort (r : Run) (count : ℕ) : Type 0 where
   pub items : length r.items ≤ count
-  pub log : length r.log ≤ 513 * count
+  pub log : length r.log ≤ 514 * count
   pub drops : length r.drops ≤ count
 
 pub short_run : (s : State) (events : List Event) → IsShort (run s events) (length events)

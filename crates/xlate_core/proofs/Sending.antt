@@ -1,10 +1,11 @@
 -- What a step has done that sends a datagram.
-use Rattle.std.proofs.Common.{◌≡◌, ℕ, ◌≤◌, List, [], ◌∷◌, ◌++◌, length, refl, ap, ◌∙◌, subst}
+use Rattle.std.proofs.Common.{◌≡◌, ℕ, ◌≤◌, List, [], ◌∷◌, ◌++◌, length, refl, ap, ◌∙◌, subst, append_assoc}
 use Rattle.std.specs.Prelude.{Some, None, true}
 use Rattle.std.proofs.lemmas.List.Elements.{All-cons, All-nil}
 use Rattle.aftr_base.specs.declared.value.Side.TheVariants.{Public as PublicSide}
 use Rattle.xlate_core.specs.declared.step_out.Item.{Item}
 use Rattle.xlate_core.specs.declared.step_out.StepOut.{StepOut}
+use Rattle.aftr_base.specs.declared.event.LogEvent.{LogEvent}
 use Rattle.aftr_base.specs.declared.value.Ip4.{Ip4}
 use Rattle.aftr_base.specs.declared.value.InnerKey.{InnerKey}
 use Rattle.xlate_core.specs.declared.grant.Sender.{Sender}
@@ -13,30 +14,45 @@ use Rattle.xlate_core.specs.declared.grant.Grant.{Grant}
 use Rattle.xlate_core.specs.Datagram.{datagram_bytes, key_of, translated}
 use Rattle.xlate_core.specs.Outbound.{Outbound}
 use Rattle.xlate_core.specs.Grant.{after_grant, opening_events}
-use Rattle.xlate_core.specs.State.{State}
-use Rattle.xlate_core.specs.Step.{item, sent_out}
+use Rattle.xlate_core.specs.State.{State, is_past_horizon}
+use Rattle.xlate_core.specs.Step.{horizon_by, item, promise_by, sent_out, with_horizon}
 use Rattle.xlate_core.specs.Stepped.{AreShort, HasStepped}
 
 pub one_short : (i : Item) → length i.bytes ≤ 65535 → AreShort (i ∷ [])
 one_short i h = All-cons (λ (i : Item). length i.bytes ≤ 65535) i [] h (All-nil (λ (i : Item). length i.bytes ≤ 65535))
 
-pub sent_so : (s s' : State) (got : Outbound) (g : Grant) (flow : Flow) (out out' : StepOut) (bytes : List ℕ) (i : Item)
+abbrev sent_bytes : Outbound → Grant → List ℕ
+sent_bytes got g = datagram_bytes (translated true g.place got.datagram)
+
+-- with its row kept, the horizon raised where it has to be, and then its lease logged
+pub sent_so : (s kept s' : State) (got : Outbound) (g : Grant) (flow : Flow) (out out' : StepOut) (log : List LogEvent) (bytes : List ℕ)
+    (i : Item)
     → flow.who ≡ got.who → flow.key ≡ key_of got.who.softwire got.datagram → flow.remote ≡ got.datagram.header.fields.dst
-    → s' ≡ after_grant flow.who flow.key flow.remote g s → i ≡ item s PublicSide (Some flow.who.owner) bytes
-    → bytes ≡ datagram_bytes (translated true g.place got.datagram) → length bytes ≤ 65535
-    → out'.items ≡ out.items ++ i ∷ [] → out'.log ≡ out.log ++ opening_events s g
-    → HasStepped (sent_out s got g) out s' out' None
-sent_so s s' got g flow out out' bytes i who key remote after is written short items log =
-    let sent = datagram_bytes (translated true g.place got.datagram) in
+    → kept ≡ after_grant flow.who flow.key flow.remote g s → i ≡ item s PublicSide (Some flow.who.owner) bytes
+    → bytes ≡ sent_bytes got g → length bytes ≤ 65535
+    → s' ≡ horizon_by (is_past_horizon kept) kept → log ≡ out.log ++ promise_by (is_past_horizon kept) kept
+    → out'.items ≡ out.items ++ i ∷ [] → out'.log ≡ log ++ opening_events s' g
+    → HasStepped (with_horizon (sent_out s got g)) out s' out' None
+sent_so s kept s' got g flow out out' log bytes i who key remote after is written short raised told items opened =
+    let sent = sent_bytes got g in
+    let whole = (sent_out s got g).state in
     let same : i ≡ item s PublicSide (Some got.who.owner) sent =
     is ∙ ap (λ (w : Sender). item s PublicSide (Some w.owner) bytes) who
     ∙ ap (λ (b : List ℕ). item s PublicSide (Some got.who.owner) b) written in
+    let there : kept ≡ whole =
+    after ∙ ap (λ (w : Sender). after_grant w flow.key flow.remote g s) who
+    ∙ ap (λ (k : InnerKey). after_grant got.who k flow.remote g s) key
+    ∙ ap (λ (a : Ip4). after_grant got.who (key_of got.who.softwire got.datagram) a g s) remote in
+    let reaches : s' ≡ horizon_by (is_past_horizon whole) whole =
+    raised ∙ ap (λ (x : State). horizon_by (is_past_horizon x) x) there in
     record {
-      reaches = after ∙ ap (λ (w : Sender). after_grant w flow.key flow.remote g s) who
-          ∙ ap (λ (k : InnerKey). after_grant got.who k flow.remote g s) key
-          ∙ ap (λ (a : Ip4). after_grant got.who (key_of got.who.softwire got.datagram) a g s) remote;
+      reaches = reaches;
       packets = items ∙ ap (λ (x : Item). out.items ++ x ∷ []) same;
-      logged = log;
+      logged = opened
+          ∙ ap (λ (l : List LogEvent). l ++ opening_events s' g) (told
+          ∙ ap (λ (x : State). out.log ++ promise_by (is_past_horizon x) x) there)
+          ∙ ap (λ (x : State). (out.log ++ promise_by (is_past_horizon whole) whole) ++ opening_events x g) reaches
+          ∙ append_assoc out.log (promise_by (is_past_horizon whole) whole) (opening_events s g);
       refusal = refl;
       short = one_short (item s PublicSide (Some got.who.owner) sent) (subst (λ (l : List ℕ). length l ≤ 65535) written short);
     }

@@ -1,12 +1,12 @@
--- A valid state stays valid as the clock is raised.
+-- A consistent state stays so as the clock is raised.
 use Rattle.std.proofs.Common.{◌≡◌, ℕ, zero, suc, ◌<◌, ◌≤◌, Bool, true, false, not, ◌&&◌, is_none, List, [], ◌∷◌, length, map, get_or}
-use Rattle.std.proofs.Common.{Option, Some, None, nat_le, nat_lt, refl, sym, subst, arith}
+use Rattle.std.proofs.Common.{max, Option, Some, None, nat_le, nat_lt, refl, sym, ap, ◌∙◌, subst, arith}
 use Rattle.std.specs.Prelude.{if◌then◌else◌}
 use Rattle.std.specs.List.{AllZip}
 use Rattle.std.proofs.lemmas.Bool.{both_ways, and_parts, and_from, and_right, not_from_true, leb-true, le-leb, eqb-true, eq-eqb}
 use Rattle.std.proofs.lemmas.List.Folds.{list_any_at}
 use Rattle.std.proofs.lemmas.List.Elements.{All-map, All-filter}
-use Rattle.aftr_base.specs.Value.{ip4_eq, subscriber_eq, is_within, moment}
+use Rattle.aftr_base.specs.Value.{ip4_eq, subscriber_eq, is_within}
 use Rattle.aftr_base.specs.Plan.{is_prefix6}
 use Rattle.aftr_base.specs.Row.{is_open, overlaps, ended}
 use Rattle.aftr_base.specs.declared.value.Ext.{Ext}
@@ -16,9 +16,9 @@ use Rattle.aftr_base.specs.declared.row.LeaseRow.{LeaseRow}
 use Rattle.aftr_base.proofs.Pairwise.{pairs_filter, pairs_map, pairs_zip, all_zip, any_zip, zip_same}
 use Rattle.xlate_core.specs.declared.nat_mapping.Row.{Row}
 use Rattle.xlate_core.specs.nat_mapping.Rows.{in_use, live_peers, expired}
-use Rattle.xlate_core.specs.State.{State}
+use Rattle.xlate_core.specs.State.{State, latest}
 use Rattle.xlate_core.specs.Expiry.{Closed, is_idle, with_idle_ended, closing_limit, at_moment}
-use Rattle.xlate_core.specs.Valid.{IsValid, lies_in_lease, is_granted, is_owned, are_alike, clash, is_lease_by}
+use Rattle.xlate_core.specs.Valid.{IsConsistent, lies_in_lease, is_granted, is_owned, are_alike, clash_open, is_lease_by}
 use Rattle.xlate_core.proofs.Clock.{by_moment}
 
 -- ---- a place in a lease
@@ -105,85 +105,107 @@ stays {rows = rows} {l = l} k d lt (Idle idle e) h = absurd (both_ways (is_idle 
 
 -- ---- what each lease keeps
 
--- an end, where there is one, is past the begin and not to come
-abbrev pub ends_by : ℕ → ℕ → Option Moment → Bool
-ends_by since now u = elim u [ None ↦ true | Some until ↦ nat_le since until.0 && nat_le until.0 now ]
+-- an open lease began by now, and an end is past the begin and no later than the latest moment
+abbrev pub ends_by : ℕ → ℕ → ℕ → Option Moment → Bool
+ends_by since now latest u = elim u [ None ↦ nat_le since now | Some until ↦ nat_le since until.0 && nat_le until.0 latest ]
 
-ends_later : (since before now : ℕ) (u : Option Moment) → before ≤ now → ends_by since before u ≡ true → ends_by since now u ≡ true
-ends_later since before now None le h = refl
-ends_later since before now (Some m) le h =
-    let a = and_parts (nat_le since m.0) (nat_le m.0 before) h in
-    let b = leb-true m.0 before a.1 in
-    and_from (nat_le since m.0) (nat_le m.0 now) a.0 (le-leb m.0 now (omega arith))
+ends_later : (since before earlier now latest : ℕ) (u : Option Moment) → before ≤ now → earlier ≤ latest
+    → ends_by since before earlier u ≡ true → ends_by since now latest u ≡ true
+ends_later since before earlier now latest None le le' h = le-leb since now (omega (arith, leb-true since before h))
+ends_later since before earlier now latest (Some m) le le' h =
+    let a = and_parts (nat_le since m.0) (nat_le m.0 earlier) h in
+    let b = leb-true m.0 earlier a.1 in
+    and_from (nat_le since m.0) (nat_le m.0 latest) a.0 (le-leb m.0 latest (omega arith))
 
-pub record IsLeaseBy (now : ℕ) (l : LeaseRow) : Type 0 where
+open_since : (since now latest : ℕ) (u : Option Moment) → is_none u ≡ true → ends_by since now latest u ≡ true → since ≤ now
+open_since since now latest None lasts h = leb-true since now h
+open_since since now latest (Some m) lasts h = cc
+
+since_by : (since now latest : ℕ) (u : Option Moment) → now ≤ latest → ends_by since now latest u ≡ true → since ≤ latest
+since_by since now latest None le h = omega (arith, leb-true since now h)
+since_by since now latest (Some m) le h =
+    let a = and_parts (nat_le since m.0) (nat_le m.0 latest) h in
+    omega (arith, leb-true since m.0 a.0, leb-true m.0 latest a.1)
+
+pub record IsLeaseBy (now latest : ℕ) (l : LeaseRow) : Type 0 where
   pub owner : is_prefix6 l.owner.0 ≡ true
   pub range : l.first ≤ l.last
-  pub begun : l.since.0 ≤ now
-  pub over : ends_by l.since.0 now l.until ≡ true
+  pub over : ends_by l.since.0 now latest l.until ≡ true
 
-pub lease_parts : (now : ℕ) (l : LeaseRow) → is_lease_by now l ≡ true → IsLeaseBy now l
-lease_parts now l h =
-    let a = and_parts (is_prefix6 l.owner.0 && nat_le l.first l.last && nat_le l.since.0 now) (ends_by l.since.0 now l.until) h in
-    let b = and_parts (is_prefix6 l.owner.0 && nat_le l.first l.last) (nat_le l.since.0 now) a.0 in
-    let c = and_parts (is_prefix6 l.owner.0) (nat_le l.first l.last) b.0 in
-    record { owner = c.0; range = leb-true l.first l.last c.1; begun = leb-true l.since.0 now b.1; over = a.1 }
+pub lease_parts : (now latest : ℕ) (l : LeaseRow) → is_lease_by now latest l ≡ true → IsLeaseBy now latest l
+lease_parts now latest l h =
+    let a = and_parts (is_prefix6 l.owner.0 && nat_le l.first l.last) (ends_by l.since.0 now latest l.until) h in
+    let b = and_parts (is_prefix6 l.owner.0) (nat_le l.first l.last) a.0 in
+    record { owner = b.0; range = leb-true l.first l.last b.1; over = a.1 }
 
-pub lease_from : (now : ℕ) (l : LeaseRow) → IsLeaseBy now l → is_lease_by now l ≡ true
-lease_from now l h =
-    and_from (is_prefix6 l.owner.0 && nat_le l.first l.last && nat_le l.since.0 now) (ends_by l.since.0 now l.until)
-    (and_from (is_prefix6 l.owner.0 && nat_le l.first l.last) (nat_le l.since.0 now)
-    (and_from (is_prefix6 l.owner.0) (nat_le l.first l.last) h.owner (le-leb l.first l.last h.range)) (le-leb l.since.0 now h.begun)) h.over
+pub lease_from : (now latest : ℕ) (l : LeaseRow) → IsLeaseBy now latest l → is_lease_by now latest l ≡ true
+lease_from now latest l h =
+    and_from (is_prefix6 l.owner.0 && nat_le l.first l.last) (ends_by l.since.0 now latest l.until)
+    (and_from (is_prefix6 l.owner.0) (nat_le l.first l.last) h.owner (le-leb l.first l.last h.range)) h.over
 
-lease_on : {before now : ℕ} {rows : List Row} {l m : LeaseRow} → before ≤ now → MayEnd now rows l m → IsLeaseBy before l → IsLeaseBy now m
-lease_on {before = before} {now = now} {l = l} le (Lasts same) h = subst (IsLeaseBy now) (sym same) (record {
-  owner = h.owner;
-  range = h.range;
-  begun = omega (arith, h.begun);
-  over = ends_later l.since.0 before now l.until le h.over;
-})
-lease_on {now = now} {l = l} le (Idle idle e) h =
-    let begun : l.since.0 ≤ now = omega (arith, h.begun) in
-    subst (IsLeaseBy now) (sym e) (record {
+-- when it began
+pub lease_since : {now latest : ℕ} {l : LeaseRow} → now ≤ latest → IsLeaseBy now latest l → l.since.0 ≤ latest
+lease_since {now = now} {latest = latest} {l = l} le h = since_by l.since.0 now latest l.until le h.over
+
+pub open_begun : {now latest : ℕ} {l : LeaseRow} → is_open l ≡ true → IsLeaseBy now latest l → l.since.0 ≤ now
+open_begun {now = now} {latest = latest} {l = l} lasts h = open_since l.since.0 now latest l.until lasts h.over
+
+lease_on : {before earlier now latest : ℕ} {rows : List Row} {l m : LeaseRow} → before ≤ now → earlier ≤ latest → now ≤ latest
+    → MayEnd now rows l m → IsLeaseBy before earlier l → IsLeaseBy now latest m
+lease_on {before = before} {earlier = earlier} {now = now} {latest = latest} {l = l} le le' by (Lasts same) h =
+    subst (IsLeaseBy now latest) (sym same) (record {
       owner = h.owner;
       range = h.range;
-      begun = begun;
-      over = and_from (nat_le l.since.0 now) (nat_le now now) (le-leb l.since.0 now begun) (le-leb now now (omega arith));
+      over = ends_later l.since.0 before earlier now latest l.until le le' h.over;
+    })
+lease_on {now = now} {latest = latest} {rows = rows} {l = l} le le' by (Idle idle e) h =
+    let begun = open_begun (idle_open rows l idle) h in
+    subst (IsLeaseBy now latest) (sym e) (record {
+      owner = h.owner;
+      range = h.range;
+      over = and_from (nat_le l.since.0 now) (nat_le now latest) (le-leb l.since.0 now (omega (arith, begun, le))) (le-leb now latest by);
     })
 
-lease_later : (before now : ℕ) (rows : List Row) (l m : LeaseRow) → before ≤ now → MayEnd now rows l m
-    → is_lease_by before l ≡ true → is_lease_by now m ≡ true
-lease_later before now rows l m le z h = lease_from now m (lease_on le z (lease_parts before l h))
+lease_later : (before earlier now latest : ℕ) (rows : List Row) (l m : LeaseRow) → before ≤ now → earlier ≤ latest → now ≤ latest
+    → MayEnd now rows l m → is_lease_by before earlier l ≡ true → is_lease_by now latest m ≡ true
+lease_later before earlier now latest rows l m le le' by z h =
+    lease_from now latest m (lease_on le le' by z (lease_parts before earlier l h))
 
 -- ---- what two leases keep
 
--- the lease was over before that moment, by its end
-abbrev pub over_before : ℕ → Option Moment → Bool
-over_before at u = elim u [ None ↦ false | Some until ↦ nat_lt until.0 at ]
+-- the end, where there is one, isn't before that moment
+abbrev pub lasts_at : ℕ → Option Moment → Bool
+lasts_at at u = elim u [ None ↦ true | Some until ↦ nat_le at until.0 ]
 
--- an open lease shares its ports with no later one, and so stays apart from it when it ends
-apart_open : (b : Bool) (at at' : ℕ) (u u' : Option Moment) → is_none u ≡ true
-    → (b && not (over_before at u)) ≡ false → (b && not (over_before at' u')) ≡ false
-apart_open true at at' None u' none h = cc
-apart_open true at at' (Some m) u' none h = cc
-apart_open false at at' u u' none h = refl
+-- one that has ended shares its ports with no open one, from either side
+pub closed_first : (l m : LeaseRow) → is_open l ≡ false → clash_open l m ≡ false
+closed_first l m h = ap (λ (b : Bool). b && is_open m && overlaps l m.addr m.first m.last) h
 
-clash_ended : {now : ℕ} {rows : List Row} {l u : LeaseRow} (m : LeaseRow) → MayEnd now rows l u → clash l m ≡ false → clash u m ≡ false
-clash_ended m (Lasts same) h = subst (λ (x : LeaseRow). clash x m ≡ false) (sym same) h
-clash_ended {now = now} {rows = rows} {l = l} m (Idle idle e) h =
+and_closed : (b over : Bool) → (b && false && over) ≡ false
+and_closed true over = refl
+and_closed false over = refl
+
+pub closed_second : (l m : LeaseRow) → is_open m ≡ false → clash_open l m ≡ false
+closed_second l m h =
     let over = overlaps l m.addr m.first m.last in
-    let begin = m.since.0 in
-    subst (λ (x : LeaseRow). clash x m ≡ false) (sym e) (apart_open over begin begin l.until (Some (moment now)) (idle_open rows l idle) h)
+    ap (λ (b : Bool). is_open l && b && over) h ∙ and_closed (is_open l) over
+
+clash_ended : {now : ℕ} {rows : List Row} {l u : LeaseRow} (m : LeaseRow) → MayEnd now rows l u → clash_open l m ≡ false
+    → clash_open u m ≡ false
+clash_ended m (Lasts same) h = subst (λ (x : LeaseRow). clash_open x m ≡ false) (sym same) h
+clash_ended {now = now} {l = l} m (Idle idle e) h =
+    subst (λ (x : LeaseRow). clash_open x m ≡ false) (sym e) (closed_first (ended now l) m refl)
 
 clash_later : {now : ℕ} {rows : List Row} {l m u v : LeaseRow} → MayEnd now rows l u → MayEnd now rows m v
-    → clash l m ≡ false → clash u v ≡ false
-clash_later {m = m} {u = u} z (Lasts same) h = subst (λ (x : LeaseRow). clash u x ≡ false) (sym same) (clash_ended m z h)
-clash_later {m = m} {u = u} z (Idle idle e) h = subst (λ (x : LeaseRow). clash u x ≡ false) (sym e) (clash_ended m z h)
+    → clash_open l m ≡ false → clash_open u v ≡ false
+clash_later {m = m} {u = u} z (Lasts same) h = subst (λ (x : LeaseRow). clash_open u x ≡ false) (sym same) (clash_ended m z h)
+clash_later {now = now} {m = m} {u = u} z (Idle idle e) h =
+    subst (λ (x : LeaseRow). clash_open u x ≡ false) (sym e) (closed_second u (ended now m) refl)
 
 -- ---- the state
 
 -- the rows that a later moment leaves
-pub rows_left : (s : State) (at : ℕ) → IsValid s → IsValid (record s { rows = expired at s.rows })
+pub rows_left : (s : State) (at : ℕ) → IsConsistent s → IsConsistent (record s { rows = expired at s.rows })
 rows_left s at v =
     let lasts = λ (r : Row). nat_lt 0 (length r.peers) in
     let live = live_peers at in
@@ -196,30 +218,34 @@ rows_left s at v =
       owned = All-filter lasts owned all (All-map owned live s.rows v.owned);
       apart = pairs_filter apart lasts all (pairs_map apart apart live (λ r q h. h) s.rows v.apart);
       leases = v.leases;
-      disjoint = v.disjoint;
+      open_apart = v.open_apart;
     }
 
 -- the leases that it leaves, where the rows stay
-pub leases_left : (s : State) (now : ℕ) → s.clock ≤ now → IsValid s
-    → IsValid (record s { clock = now; leases = with_idle_ended closing_limit now s.rows s.leases })
+pub leases_left : (s : State) (now : ℕ) → s.clock ≤ now → IsConsistent s
+    → IsConsistent (record s { clock = now; leases = with_idle_ended closing_limit now s.rows s.leases })
 leases_left s now le v =
     let Z = MayEnd now s.rows in
     let after = with_idle_ended closing_limit now s.rows s.leases in
     let z = idle_end closing_limit now s.rows s.leases in
-    let before = λ (l : LeaseRow). is_lease_by s.clock l ≡ true in
-    let later = λ (l : LeaseRow). is_lease_by now l ≡ true in
-    let apart = λ (l m : LeaseRow). clash l m ≡ false in
+    let end = max now s.floor in
+    let before = λ (l : LeaseRow). is_lease_by s.clock (latest s) l ≡ true in
+    let later = λ (l : LeaseRow). is_lease_by now end l ≡ true in
+    let rises : latest s ≤ end = omega (arith, le) in
+    let by : now ≤ end = omega arith in
+    let apart = λ (l m : LeaseRow). clash_open l m ≡ false in
     record {
       granted = λ k d lt.
           let lies = lies_in_lease (get_or s.rows k d) in
           any_zip Z lies lies (λ l m y h. stays k d lt y h) s.leases after z (v.granted k d lt);
       owned = v.owned;
       apart = v.apart;
-      leases = all_zip Z before later (λ l m y h. lease_later s.clock now s.rows l m le y h) s.leases after z v.leases;
-      disjoint = pairs_zip Z apart apart (λ l m u w y x h. clash_later y x h) s.leases after z v.disjoint;
+      leases = all_zip Z before later (λ l m y h. lease_later s.clock (latest s) now end s.rows l m le rises by y h) s.leases after z
+          v.leases;
+      open_apart = pairs_zip Z apart apart (λ l m u w y x h. clash_later y x h) s.leases after z v.open_apart;
     }
 
-pub valid_moment : (at : ℕ) (s : State) → IsValid s → IsValid (at_moment at s).state
-valid_moment at s v =
-    by_moment (λ (c : Closed). IsValid c.state) at s (λ le. v)
+pub consistent_moment : (at : ℕ) (s : State) → IsConsistent s → IsConsistent (at_moment at s).state
+consistent_moment at s v =
+    by_moment (λ (c : Closed). IsConsistent c.state) at s (λ le. v)
     (λ lt. leases_left (record s { rows = expired at s.rows }) at (omega (arith, lt)) (rows_left s at v))

@@ -1,6 +1,6 @@
--- A valid state stays valid as a packet's grant is carried out, and the packet's place lies in an open lease of its owner.
-use Rattle.std.proofs.Common.{◌≡◌, ℕ, ◌+◌, ◌<◌, Bool, true, false, cond, not, ◌&&◌, ◌||◌, ◌==◌, is_none, is_some, List, [], ◌∷◌, ◌++◌}
-use Rattle.std.proofs.Common.{get_or, option_to_list, Option, Some, None, All, nat_le, nat_lt, refl, sym, ap, ◌∙◌, subst, append-nil, arith}
+-- A consistent state stays so as a packet's grant is carried out, and the packet's place lies in an open lease of its owner.
+use Rattle.std.proofs.Common.{◌≡◌, ℕ, ◌<◌, Bool, true, false, cond, not, ◌&&◌, ◌||◌, ◌==◌, is_some, List, [], ◌∷◌, ◌++◌}
+use Rattle.std.proofs.Common.{get_or, option_to_list, Option, Some, None, All, nat_le, refl, sym, ap, ◌∙◌, subst, append-nil, arith}
 use Rattle.std.proofs.Common.{ap₂}
 use Rattle.std.specs.Prelude.{if◌then◌else◌}
 use Rattle.std.specs.List.{list_any}
@@ -8,14 +8,13 @@ use Rattle.std.proofs.lemmas.Bool.{both_ways, and_parts, and_from, le-leb, eqb-t
 use Rattle.std.proofs.lemmas.List.Folds.{list_any-append}
 use Rattle.aftr_base.specs.Value.{ip4_eq, ip6_eq, key_eq, place_eq, proto_eq, place, subscriber_eq, ip6, is_under6, prefix_of}
 use Rattle.aftr_base.specs.Plan.{is_prefix6}
-use Rattle.aftr_base.specs.Row.{is_open, overlaps, ended}
+use Rattle.aftr_base.specs.Row.{overlaps, ended}
 use Rattle.aftr_base.specs.declared.value.Prefix6.{Prefix6}
 use Rattle.aftr_base.specs.declared.value.Ip4.{Ip4}
 use Rattle.aftr_base.specs.declared.value.Ip6.{Ip6}
 use Rattle.aftr_base.specs.declared.value.Ext.{Ext}
 use Rattle.aftr_base.specs.declared.value.InnerKey.{InnerKey}
 use Rattle.aftr_base.specs.declared.value.Proto.{Proto}
-use Rattle.aftr_base.specs.declared.value.Moment.{Moment}
 use Rattle.aftr_base.specs.declared.value.Subscriber.{Subscriber}
 use Rattle.aftr_base.specs.declared.row.LeaseRow.{LeaseRow}
 use Rattle.cfg_text.specs.declared.config.Config.{Config}
@@ -27,16 +26,16 @@ use Rattle.xlate_core.specs.nat_mapping.Rows.{find_out, is_at, touched}
 use Rattle.xlate_core.specs.port_blocks.Free.{block_anywhere, opened, has_ended_for, last_port}
 use Rattle.xlate_core.specs.subscriber_table.Under.{subscriber_of}
 use Rattle.xlate_core.specs.declared.grant.Sender.{Sender}
-use Rattle.xlate_core.specs.State.{State}
-use Rattle.xlate_core.specs.Valid.{IsValid, lies_in_lease, is_granted, is_owned, is_lease_by}
+use Rattle.xlate_core.specs.State.{State, latest}
+use Rattle.xlate_core.specs.Valid.{IsConsistent, lies_in_lease, is_granted, is_owned, is_lease_by}
 use Rattle.xlate_core.specs.declared.grant.Grant.{Grant}
 use Rattle.xlate_core.specs.Grant.{at_once, new_lease, row_for, peer_of, after_grant}
 use Rattle.aftr_base.proofs.Founds.{found_passes, found_in, found_none, some_inj, any_gives}
 use Rattle.xlate_core.proofs.ValidExpiry.{here_from, lease_from, lies_here, lies_parts}
-use Rattle.xlate_core.proofs.ValidRows.{lies_at, own_subscriber, same_subscriber, valid_touched, valid_pushed, granted_by, valid_opened}
-use Rattle.xlate_core.proofs.ValidRows.{with_lease}
+use Rattle.xlate_core.proofs.ValidRows.{consistent_opened, consistent_pushed, consistent_touched, granted_by, lies_at}
+use Rattle.xlate_core.proofs.ValidRows.{own_subscriber, same_subscriber, with_lease}
 use Rattle.xlate_core.proofs.ValidGrants.{IsGrant, may_have, GrantCase, Keeps, Takes, Opens, grant_case, taken_granted, taken_free}
-use Rattle.xlate_core.proofs.ValidGrants.{block_free, no_clash}
+use Rattle.xlate_core.proofs.ValidGrants.{block_free, open_apart, open_stays}
 
 -- ---- a subscriber is a prefix
 
@@ -61,9 +60,10 @@ abbrev first_place : Ip4 × ℕ → Ext
 first_place b = place b.0 b.1
 
 lease_opens : (s : State) (owner : Subscriber) (b : Ip4 × ℕ) → 0 < s.config.block_size → is_prefix6 owner.0 ≡ true
-    → is_lease_by s.clock (lease_of s owner b) ≡ true
+    → is_lease_by s.clock (latest s) (lease_of s owner b) ≡ true
 lease_opens s owner b some prefix =
-    lease_from s.clock (lease_of s owner b) (record { owner = prefix; range = omega (arith, some); begun = omega arith; over = refl })
+    lease_from s.clock (latest s) (lease_of s owner b)
+    (record { owner = prefix; range = omega (arith, some); over = le-leb s.clock s.clock (omega arith) })
 
 -- its first port lies in it
 lies_first : (s : State) (owner : Subscriber) (b : Ip4 × ℕ) → 0 < s.config.block_size
@@ -73,14 +73,6 @@ lies_first s owner b some =
     (record { lasts = refl; owns = own_subscriber owner; addr = refl; low = omega arith; high = omega (arith, some) })
 
 -- and no row has it, since each has its place in an open lease, which the block overlaps with none of
-stays_by : (mine : Bool) (hold now : ℕ) (u : Option Moment) → is_none u ≡ true
-    → elim u [ None ↦ false | Some until ↦ nat_le (until.0 + hold) now || (mine && nat_lt until.0 now) ] ≡ false
-stays_by mine hold now None lasts = refl
-stays_by mine hold now (Some m) lasts = cc
-
-open_stays : (c : Config) (owner : Subscriber) (now : ℕ) (l : LeaseRow) → is_open l ≡ true → has_ended_for c owner now l ≡ false
-open_stays c owner now l lasts = stays_by (subscriber_eq owner l.owner) c.hold_ms now l.until lasts
-
 apart_or_ended : (b ended : Bool) → (not b || ended) ≡ true → b ≡ true → ended ≡ false → ⊥
 apart_or_ended true ended h e f = both_ways ended f h
 apart_or_ended false ended h e f = cc
@@ -99,7 +91,7 @@ meets c b proto q l some there lies =
     and_from (l.addr.0 == b.0.0 && nat_le l.first last) (nat_le b.1 l.last)
     (and_from (l.addr.0 == b.0.0) (nat_le l.first last) (eq-eqb l.addr.0 b.0.0 (sym (addr ∙ h.addr))) low) high
 
-place_free : (s : State) (owner : Subscriber) (b : Ip4 × ℕ) (proto : Proto) → 0 < s.config.block_size → IsValid s
+place_free : (s : State) (owner : Subscriber) (b : Ip4 × ℕ) (proto : Proto) → 0 < s.config.block_size → IsConsistent s
     → block_anywhere s.config s.leases owner s.clock ≡ Some b → All (λ q. is_at proto (first_place b) q ≡ false) s.rows
 place_free s owner b proto some v h k d lt =
     let q = get_or s.rows k d in
@@ -161,35 +153,35 @@ row_owned : (s : State) (who : Sender) (key : InnerKey) (p : Peer) (e : Ext) →
     → is_owned s (row_for who key p e) ≡ true
 row_owned s who key p e h = ap (owned_by who.owner) h ∙ own_subscriber who.owner
 
-valid_case : (s : State) (who : Sender) (key : InnerKey) (remote : Ip4) (g : Grant) → IsGrant s who key remote g → IsValid s
-    → GrantCase s who key g → IsValid (after_grant who key remote g s)
-valid_case s who key remote g h v (Keeps r found same) =
-    subst IsValid (sym (after_keeps s who key remote g r found same)) (valid_touched s key (peer_of s remote) v)
-valid_case s who key remote g h v (Takes x none taken same) =
+consistent_case : (s : State) (who : Sender) (key : InnerKey) (remote : Ip4) (g : Grant) → IsGrant s who key remote g → IsConsistent s
+    → GrantCase s who key g → IsConsistent (after_grant who key remote g s)
+consistent_case s who key remote g h v (Keeps r found same) =
+    subst IsConsistent (sym (after_keeps s who key remote g r found same)) (consistent_touched s key (peer_of s remote) v)
+consistent_case s who key remote g h v (Takes x none taken same) =
     let p = peer_of s remote in
     let keys = found_none (λ r. key_eq key r.key) s.rows none in
     let granted = taken_granted s who key.proto x taken in
     let places = taken_free s who key.proto x taken in
-    subst IsValid (sym (after_takes s who key remote g x none same))
-    (valid_pushed s (row_for who key p x) v granted (row_owned s who key p x h.owns) keys places)
-valid_case s who key remote g h v (Opens b none free same) =
+    subst IsConsistent (sym (after_takes s who key remote g x none same))
+    (consistent_pushed s (row_for who key p x) v granted (row_owned s who key p x h.owns) keys places)
+consistent_case s who key remote g h v (Opens b none free same) =
     let p = peer_of s remote in
     let l = lease_of s who.owner b in
     let e = first_place b in
     let known = facts s.config h.accepted in
     let some = known.block_least in
     let prefix = owner_prefix s.config key.softwire who.owner h.accepted h.owns in
-    let apart = no_clash s who.owner b (omega (arith, known.hold_least)) free in
-    let opens = valid_opened s l v (lease_opens s who.owner b some prefix) apart in
+    let apart = open_apart s who.owner b free in
+    let opens = consistent_opened s l v (lease_opens s who.owner b some prefix) apart in
     let keys = found_none (λ r. key_eq key r.key) s.rows none in
     let granted = granted_by s l (row_for who key p e) (lies_first s who.owner b some) in
-    subst IsValid (sym (after_opens s who key remote g b none same))
-    (valid_pushed (with_lease l s) (row_for who key p e) opens granted (row_owned s who key p e h.owns) keys
+    subst IsConsistent (sym (after_opens s who key remote g b none same))
+    (consistent_pushed (with_lease l s) (row_for who key p e) opens granted (row_owned s who key p e h.owns) keys
     (place_free s who.owner b key.proto some v free))
 
-pub valid_grant : {s : State} {who : Sender} {key : InnerKey} {remote : Ip4} {g : Grant} → IsGrant s who key remote g → IsValid s
-    → IsValid (after_grant who key remote g s)
-valid_grant {s = s} {who = who} {key = key} {remote = remote} {g = g} h v = valid_case s who key remote g h v (grant_case h)
+pub consistent_grant : {s : State} {who : Sender} {key : InnerKey} {remote : Ip4} {g : Grant} → IsGrant s who key remote g → IsConsistent s
+    → IsConsistent (after_grant who key remote g s)
+consistent_grant {s = s} {who = who} {key = key} {remote = remote} {g = g} h v = consistent_case s who key remote g h v (grant_case h)
 
 -- ---- the packet's place
 
@@ -214,7 +206,7 @@ lies_more : (owner : Subscriber) (e : Ext) (leases more : List LeaseRow) → lie
 lies_more owner e leases more h =
     list_any-append (lies_here owner e) leases more ∙ or_left (lies_at leases owner e) (lies_at more owner e) h
 
-granted_case : (s : State) (who : Sender) (key : InnerKey) (remote : Ip4) (g : Grant) → IsGrant s who key remote g → IsValid s
+granted_case : (s : State) (who : Sender) (key : InnerKey) (remote : Ip4) (g : Grant) → IsGrant s who key remote g → IsConsistent s
     → GrantCase s who key g → lies_at (after s g) who.owner g.place ≡ true
 granted_case s who key remote g h v (Keeps r found same) =
     let hit = λ (q : Row). key_eq key q.key in
@@ -235,6 +227,6 @@ granted_case s who key remote g h v (Opens b none free same) =
     ∙ or_right (list_any lies s.leases) (list_any lies (l ∷ [])) (or_left (lies l) false here))
 
 -- it lies in an open lease of the sender
-pub place_granted : {s : State} {who : Sender} {key : InnerKey} {remote : Ip4} {g : Grant} → IsGrant s who key remote g → IsValid s
+pub place_granted : {s : State} {who : Sender} {key : InnerKey} {remote : Ip4} {g : Grant} → IsGrant s who key remote g → IsConsistent s
     → lies_at (after_grant who key remote g s).leases who.owner g.place ≡ true
 place_granted {s = s} {who = who} {key = key} {remote = remote} {g = g} h v = granted_case s who key remote g h v (grant_case h)

@@ -1,9 +1,10 @@
--- A valid state stays valid as a grant is carried out.
+-- Which place a grant gives, and that a block for it is free.
 use Rattle.std.proofs.Common.{◌≡◌, inl, inr, ℕ, ◌+◌, ◌-◌, ◌<◌, ◌≤◌, Bool, true, false, cond, not, ◌&&◌, ◌||◌, ◌==◌, List, length, get_or}
-use Rattle.std.proofs.Common.{option_map, Option, Some, None, Result, Ok, Err, ok_or, All, nat_le, nat_lt, refl, sym, subst, arith}
+use Rattle.std.proofs.Common.{option_map, Option, Some, None, Result, Ok, Err, ok_or, All, is_none, nat_le, nat_lt, refl, sym, ap, subst}
+use Rattle.std.proofs.Common.{arith}
 use Rattle.std.specs.Prelude.{if◌then◌else◌}
 use Rattle.std.specs.List.{list_any, range_with_len}
-use Rattle.std.proofs.lemmas.Bool.{and_parts, or_cases, not_from_true, not-true, leb-true, lt-ltb}
+use Rattle.std.proofs.lemmas.Bool.{and_parts, both_ways, or_cases, not-true, leb-true, lt-leb, ltb-true}
 use Rattle.std.proofs.lemmas.List.Elements.{filter_passes}
 use Rattle.aftr_base.specs.Value.{place, subscriber_eq}
 use Rattle.aftr_base.specs.Row.{is_open, overlaps, ended}
@@ -23,12 +24,12 @@ use Rattle.xlate_core.specs.port_blocks.Free.{open_of, block_anywhere, block_at,
 use Rattle.xlate_core.specs.port_blocks.Free.{has_ended_for, last_port}
 use Rattle.xlate_core.specs.declared.grant.Sender.{Sender}
 use Rattle.xlate_core.specs.State.{State}
-use Rattle.xlate_core.specs.Valid.{clash}
+use Rattle.xlate_core.specs.Valid.{clash, clash_open}
 use Rattle.xlate_core.specs.declared.grant.Grant.{Grant}
 use Rattle.xlate_core.specs.Grant.{at_once, place_in, place_in_lease, new_lease, new_block, may_peer, granted}
 use Rattle.aftr_base.proofs.Founds.{found_passes, found_in, first_in, first_any, mapped_some, none_any, all_pass, any_filter, in_row}
 use Rattle.xlate_core.proofs.Attempts.{test_passed}
-use Rattle.xlate_core.proofs.ValidExpiry.{here_from, lies_here, over_before}
+use Rattle.xlate_core.proofs.ValidExpiry.{here_from, lasts_at, lies_here}
 use Rattle.xlate_core.proofs.ValidRows.{lies_at}
 use Rattle.xlate_core.specs.subscriber_table.Under.{subscriber_of}
 use Rattle.cfg_text.specs.Accepted.{is_accepted}
@@ -168,28 +169,50 @@ block_free c leases owner now b h =
     let hit = first_in (block_at c leases owner now) (λ a. Unit {0}) addrs b (any_address addrs) h in
     all_pass (may_have c owner now b) leases (free_parts c leases owner now hit.0 b hit.2)
 
--- what has ended for somebody was over before this moment, where the hold time isn't zero
+-- an open lease hasn't ended for anybody
+stays_by : (mine : Bool) (hold now : ℕ) (u : Option Moment) → is_none u ≡ true
+    → elim u [ None ↦ false | Some until ↦ nat_le (until.0 + hold) now || (mine && nat_lt until.0 now) ] ≡ false
+stays_by mine hold now None lasts = refl
+stays_by mine hold now (Some m) lasts = cc
+
+pub open_stays : (c : Config) (owner : Subscriber) (now : ℕ) (l : LeaseRow) → is_open l ≡ true → has_ended_for c owner now l ≡ false
+open_stays c owner now l lasts = stays_by (subscriber_eq owner l.owner) c.hold_ms now l.until lasts
+
+open_by : (lasts over ended : Bool) → (lasts ≡ true → ended ≡ false) → (not over || ended) ≡ true → (lasts && true && over) ≡ false
+open_by false over ended stays h = refl
+open_by true false ended stays h = refl
+open_by true true ended stays h = absurd (both_ways ended (stays refl) h)
+
+-- a new lease shares no port with an open one
+pub open_apart : (s : State) (owner : Subscriber) (b : Ip4 × ℕ) → block_anywhere s.config s.leases owner s.clock ≡ Some b
+    → All (λ m. clash_open m (opened s.config owner s.clock b.0 b.1) ≡ false) s.leases
+open_apart s owner b h k d lt =
+    let m = get_or s.leases k d in
+    open_by (is_open m) (overlaps m b.0 b.1 (last_port s.config b.1)) (has_ended_for s.config owner s.clock m)
+    (open_stays s.config owner s.clock m) (block_free s.config s.leases owner s.clock b h k d lt)
+
+-- what has ended for somebody doesn't last to this moment, where the hold time isn't zero
 over_by : (mine : Bool) (hold now : ℕ) (u : Option Moment) → 0 < hold
-    → elim u [ None ↦ false | Some until ↦ nat_le (until.0 + hold) now || (mine && nat_lt until.0 now) ] ≡ true → over_before now u ≡ true
-over_by mine hold now None holds h = h
+    → elim u [ None ↦ false | Some until ↦ nat_le (until.0 + hold) now || (mine && nat_lt until.0 now) ] ≡ true → lasts_at now u ≡ false
+over_by mine hold now None holds h = cc
 over_by mine hold now (Some m) holds h = elim (or_cases (nat_le (m.0 + hold) now) (mine && nat_lt m.0 now) h) [
-  | inl past ↦ lt-ltb m.0 now (omega (arith, leb-true (m.0 + hold) now past))
-  | inr own ↦ (and_parts mine (nat_lt m.0 now) own).1
+  | inl past ↦ lt-leb now m.0 (omega (arith, holds, leb-true (m.0 + hold) now past))
+  | inr own ↦ lt-leb now m.0 (ltb-true m.0 now (and_parts mine (nat_lt m.0 now) own).1)
 ]
 
 ended_before : (c : Config) (owner : Subscriber) (now : ℕ) (l : LeaseRow) → 0 < c.hold_ms → has_ended_for c owner now l ≡ true
-    → over_before now l.until ≡ true
+    → lasts_at now l.until ≡ false
 ended_before c owner now l holds h = over_by (subscriber_eq owner l.owner) c.hold_ms now l.until holds h
 
-clash_by : (b over ended : Bool) → (not b || ended) ≡ true → (ended ≡ true → over ≡ true) → (b && not over) ≡ false
-clash_by true over ended h before = not_from_true over (before h)
-clash_by false over ended h before = refl
+clash_by : (over lasts ended : Bool) → (not over || ended) ≡ true → (ended ≡ true → lasts ≡ false) → (over && lasts && true) ≡ false
+clash_by true lasts ended h past = ap (λ (b : Bool). b && true) (past h)
+clash_by false lasts ended h past = refl
 
--- a new lease shares no port with an earlier one
+-- nor a port with an earlier one that lasts to its begin
 pub no_clash : (s : State) (owner : Subscriber) (b : Ip4 × ℕ) → 0 < s.config.hold_ms
     → block_anywhere s.config s.leases owner s.clock ≡ Some b
     → All (λ m. clash m (opened s.config owner s.clock b.0 b.1) ≡ false) s.leases
 no_clash s owner b holds h k d lt =
     let m = get_or s.leases k d in
-    clash_by (overlaps m b.0 b.1 (last_port s.config b.1)) (over_before s.clock m.until) (has_ended_for s.config owner s.clock m)
+    clash_by (overlaps m b.0 b.1 (last_port s.config b.1)) (lasts_at s.clock m.until) (has_ended_for s.config owner s.clock m)
     (block_free s.config s.leases owner s.clock b h k d lt) (ended_before s.config owner s.clock m holds)

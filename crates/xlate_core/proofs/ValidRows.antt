@@ -1,4 +1,4 @@
--- A valid state stays valid as a row is touched or made, and as a lease opens.
+-- A consistent state stays so as a row is touched or made, and as a lease opens.
 use Rattle.std.proofs.Common.{◌≡◌, ℕ, Bool, true, false, ◌&&◌, ◌||◌, ◌==◌, List, [], ◌∷◌, ◌++◌, get_or, Some, None, All, refl, ap, ◌∙◌}
 use Rattle.std.proofs.Common.{arith, ap₂}
 use Rattle.std.specs.Prelude.{if◌then◌else◌}
@@ -18,8 +18,8 @@ use Rattle.xlate_core.specs.declared.nat_mapping.Row.{Row}
 use Rattle.xlate_core.specs.declared.nat_mapping.Peer.{Peer}
 use Rattle.xlate_core.specs.nat_mapping.Rows.{is_at, touched, with_peer}
 use Rattle.xlate_core.specs.subscriber_table.Under.{subscriber_of}
-use Rattle.xlate_core.specs.State.{State}
-use Rattle.xlate_core.specs.Valid.{IsValid, lies_in_lease, is_granted, is_owned, are_alike, clash, is_lease_by}
+use Rattle.xlate_core.specs.State.{State, latest}
+use Rattle.xlate_core.specs.Valid.{IsConsistent, lies_in_lease, is_granted, is_owned, are_alike, clash_open, is_lease_by}
 use Rattle.xlate_core.specs.Grant.{granted}
 use Rattle.xlate_core.proofs.ValidExpiry.{lies_here}
 use Rattle.aftr_base.proofs.Pairwise.{pairs_zip, all_zip, zip_same}
@@ -92,8 +92,8 @@ alike_same x y u v z w h =
     ∙ ap (λ (e : Ext). alike_at x.key x.ext y.key e) w.2
     ∙ h
 
-pub valid_touched : (s : State) (key : InnerKey) (p : Peer) → IsValid s → IsValid (record s { rows = touched key p s.rows })
-valid_touched s key p v =
+pub consistent_touched : (s : State) (key : InnerKey) (p : Peer) → IsConsistent s → IsConsistent (record s { rows = touched key p s.rows })
+consistent_touched s key p v =
     let z = rows_touched key p s.rows in
     let granted = λ (r : Row). is_granted s r ≡ true in
     let owned = λ (r : Row). is_owned s r ≡ true in
@@ -103,22 +103,22 @@ valid_touched s key p v =
       owned = all_zip SameRow owned owned (owned_same s) s.rows (touched key p s.rows) z v.owned;
       apart = pairs_zip SameRow apart apart alike_same s.rows (touched key p s.rows) z v.apart;
       leases = v.leases;
-      disjoint = v.disjoint;
+      open_apart = v.open_apart;
     }
 
 -- ---- one row more
 
-pub valid_pushed : (s : State) (r : Row) → IsValid s → is_granted s r ≡ true → is_owned s r ≡ true
+pub consistent_pushed : (s : State) (r : Row) → IsConsistent s → is_granted s r ≡ true → is_owned s r ≡ true
     → All (λ q. key_eq r.key q.key ≡ false) s.rows → All (λ q. is_at r.key.proto r.ext q ≡ false) s.rows
-    → IsValid (record s { rows = s.rows ++ r ∷ [] })
-valid_pushed s r v granted owned keys places = record {
+    → IsConsistent (record s { rows = s.rows ++ r ∷ [] })
+consistent_pushed s r v granted owned keys places = record {
   granted = All-push (λ q. is_granted s q ≡ true) s.rows r v.granted granted;
   owned = All-push (λ q. is_owned s q ≡ true) s.rows r v.owned owned;
   apart = all_pairs_push (λ x y. are_alike x y ≡ false) s.rows r v.apart (λ k d lt.
       let q = get_or s.rows k d in
       or_from (key_eq q.key r.key) (is_at r.key.proto r.ext q) (key_same q.key r.key ∙ keys k d lt) (places k d lt));
   leases = v.leases;
-  disjoint = v.disjoint;
+  open_apart = v.open_apart;
 }
 
 -- ---- one lease more
@@ -136,12 +136,18 @@ granted_by s l r h =
     let lies = lies_in_lease r in
     list_any-append lies s.leases (l ∷ []) ∙ or_right (list_any lies s.leases) (list_any lies (l ∷ [])) (or_left (lies l) false h)
 
-pub valid_opened : (s : State) (l : LeaseRow) → IsValid s → is_lease_by s.clock l ≡ true → All (λ m. clash m l ≡ false) s.leases
-    → IsValid (with_lease l s)
-valid_opened s l v by apart = record {
+pub consistent_opened : (s : State) (l : LeaseRow) → IsConsistent s → is_lease_by s.clock (latest s) l ≡ true
+    → All (λ m. clash_open m l ≡ false) s.leases → IsConsistent (with_lease l s)
+consistent_opened s l v by apart = record {
   granted = All-weaker (λ r. is_granted s r ≡ true) (λ r. is_granted (with_lease l s) r ≡ true) (granted_on s l) s.rows v.granted;
   owned = v.owned;
   apart = v.apart;
-  leases = All-push (λ m. is_lease_by s.clock m ≡ true) s.leases l v.leases by;
-  disjoint = all_pairs_push (λ x y. clash x y ≡ false) s.leases l v.disjoint apart;
+  leases = All-push (λ m. is_lease_by s.clock (latest s) m ≡ true) s.leases l v.leases by;
+  open_apart = all_pairs_push (λ x y. clash_open x y ≡ false) s.leases l v.open_apart apart;
 }
+
+-- ---- another horizon
+
+pub consistent_horizon : (s : State) (horizon : ℕ) → IsConsistent s → IsConsistent (record s { horizon = horizon })
+consistent_horizon s horizon v =
+    record { granted = v.granted; owned = v.owned; apart = v.apart; leases = v.leases; open_apart = v.open_apart }

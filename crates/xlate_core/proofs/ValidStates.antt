@@ -1,32 +1,38 @@
--- Every state that a run comes to is valid.
-use Rattle.std.proofs.Common.{◌≡◌, ℕ, ◌≤◌, true, List, [], ◌∷◌, All, max, refl, sym, ◌∙◌, subst, arith}
+-- Every state that a run comes to is consistent.
+use Rattle.std.proofs.Common.{◌≡◌, ℕ, ◌≤◌, true, List, [], ◌∷◌, All, get_or, max, refl, sym, ◌∙◌, subst, arith}
 use Rattle.std.proofs.lemmas.List.Elements.{All-nil, All-head, All-tail}
 use Rattle.aftr_base.specs.declared.event.Event.{Event}
 use Rattle.aftr_base.specs.declared.event.EventKind.{EventKind}
+use Rattle.aftr_base.specs.Told.{end_of}
+use Rattle.aftr_base.specs.declared.told.Told.{Told}
 use Rattle.cfg_text.specs.declared.config.Config.{Config}
 use Rattle.cfg_text.specs.Accepted.{is_accepted}
 use Rattle.xlate_core.specs.declared.grant.Grant.{Grant}
 use Rattle.xlate_core.specs.Outbound.{Outbound}
-use Rattle.xlate_core.specs.State.{State, Step}
+use Rattle.xlate_core.specs.State.{State, Step, latest}
 use Rattle.xlate_core.specs.Datagram.{key_of}
 use Rattle.xlate_core.specs.Expiry.{at_moment}
-use Rattle.xlate_core.specs.Valid.{IsValid, is_granted, is_owned, is_lease_by}
+use Rattle.xlate_core.specs.Valid.{IsConsistent, IsStart, is_granted, is_owned, is_lease_by}
 use Rattle.xlate_core.specs.Step.{step, treatment}
 use Rattle.xlate_core.specs.Run.{run, start}
-use Rattle.xlate_core.proofs.Clock.{config_stays, moment_clock}
-use Rattle.xlate_core.proofs.ValidExpiry.{valid_moment}
-use Rattle.xlate_core.proofs.ValidForwards.{valid_grant}
+use Rattle.xlate_core.proofs.Clock.{config_stays, floor_stays, moment_clock}
+use Rattle.xlate_core.proofs.ValidExpiry.{closed_first, consistent_moment}
+use Rattle.xlate_core.proofs.ValidForwards.{consistent_grant}
 use Rattle.xlate_core.proofs.ValidGrants.{IsGrant}
+use Rattle.xlate_core.proofs.ValidRows.{consistent_horizon}
 use Rattle.xlate_core.proofs.Treatments.{IsOut, by_way}
 
-pub valid_start : (c : Config) → IsValid (start c)
-valid_start c = record {
-  granted = All-nil (λ r. is_granted (start c) r ≡ true);
-  owned = All-nil (λ r. is_owned (start c) r ≡ true);
-  apart = λ i j d lt within. absurd (omega arith);
-  leases = All-nil (λ l. is_lease_by 0 l ≡ true);
-  disjoint = λ i j d lt within. absurd (omega arith);
-}
+pub consistent_start : {c : Config} {t : Told} → IsStart c t → IsConsistent (start c t)
+consistent_start {c = c} {t = t} h =
+    let s = start c t in
+    let end : end_of t ≡ latest s = omega arith in
+    record {
+      granted = All-nil (λ r. is_granted s r ≡ true);
+      owned = All-nil (λ r. is_owned s r ≡ true);
+      apart = λ i j d lt within. absurd (omega arith);
+      leases = subst (λ (n : ℕ). All (λ l. is_lease_by 0 n l ≡ true) t.leases) end h.leases;
+      open_apart = λ i j d lt within. closed_first (get_or t.leases i d) (get_or t.leases j d) (h.ended i d (omega (arith, lt, within)));
+    }
 
 -- ---- a record's own treatment
 
@@ -34,13 +40,16 @@ valid_start c = record {
 pub record IsBeside (s : State) (t : Step) : Type 0 where
   pub clock : t.state.clock ≡ s.clock
   pub config : t.state.config ≡ s.config
+  pub floor : t.state.floor ≡ s.floor
+  pub horizon : t.state.horizon ≡ s.horizon
+  pub plans : t.state.plans ≡ s.plans
 
 pub treated_beside : (s : State) (bytes : List ℕ) (kind : EventKind) → IsBeside s (treatment s kind bytes)
 treated_beside s bytes kind = by_way (IsBeside s) s bytes kind (record {
-  rests = record { clock = refl; config = refl };
-  drops = λ cause. record { clock = refl; config = refl };
-  delivers = λ d r by. record { clock = refl; config = refl };
-  forwards = λ got g by. record { clock = refl; config = refl };
+  rests = record { clock = refl; config = refl; floor = refl; horizon = refl; plans = refl };
+  drops = λ cause. record { clock = refl; config = refl; floor = refl; horizon = refl; plans = refl };
+  delivers = λ d r by. record { clock = refl; config = refl; floor = refl; horizon = refl; plans = refl };
+  forwards = λ got g by. record { clock = refl; config = refl; floor = refl; horizon = refl; plans = refl };
 })
 
 -- a packet that goes out was granted its place
@@ -48,16 +57,20 @@ pub grant_out : {s : State} {bytes : List ℕ} {got : Outbound} {g : Grant} → 
     → IsGrant s got.who (key_of got.who.softwire got.datagram) got.datagram.header.fields.dst g
 grant_out ok by = record { accepted = ok; owns = by.owns; grants = by.grants }
 
-pub valid_treated : (s : State) (bytes : List ℕ) (kind : EventKind) → is_accepted s.config ≡ true → IsValid s
-    → IsValid (treatment s kind bytes).state
-valid_treated s bytes kind ok v = by_way (λ (t : Step). IsValid t.state) s bytes kind (record {
+pub consistent_treated : (s : State) (bytes : List ℕ) (kind : EventKind) → is_accepted s.config ≡ true → IsConsistent s
+    → IsConsistent (treatment s kind bytes).state
+consistent_treated s bytes kind ok v = by_way (λ (t : Step). IsConsistent t.state) s bytes kind (record {
   rests = v;
   drops = λ cause. v;
   delivers = λ d r by. v;
-  forwards = λ got g by. valid_grant (grant_out ok by) v;
+  forwards = λ got g by. consistent_grant (grant_out ok by) v;
 })
 
 -- ---- a step
+
+-- the record's own treatment in the state that it is treated in
+abbrev own_of : State → Event → Step
+own_of s e = treatment (at_moment e.at.0 s).state e.kind e.bytes
 
 -- the configuration stays
 pub step_config : (s : State) (e : Event) → (step s e).state.config ≡ s.config
@@ -73,6 +86,10 @@ step_accepted s e ok = subst (λ (c : Config). is_accepted c ≡ true) (sym (ste
 pub step_clock_is : (s : State) (e : Event) → (step s e).state.clock ≡ max s.clock e.at.0
 step_clock_is s e = (treated_beside (at_moment e.at.0 s).state e.bytes e.kind).clock ∙ moment_clock e.at.0 s
 
+-- the floor stays
+pub step_floor : (s : State) (e : Event) → (step s e).state.floor ≡ s.floor
+step_floor s e = (treated_beside (at_moment e.at.0 s).state e.bytes e.kind).floor ∙ floor_stays e.at.0 s
+
 -- it doesn't fall
 pub step_clock : (s : State) (e : Event) → s.clock ≤ (step s e).state.clock
 step_clock s e = omega (arith, step_clock_is s e)
@@ -81,8 +98,10 @@ step_clock s e = omega (arith, step_clock_is s e)
 pub step_clock_most : (limit : ℕ) (s : State) (e : Event) → s.clock ≤ limit → e.at.0 ≤ limit → (step s e).state.clock ≤ limit
 step_clock_most limit s e le at = omega (arith, step_clock_is s e, le, at)
 
-pub valid_step : (s : State) (e : Event) → is_accepted s.config ≡ true → IsValid s → IsValid (step s e).state
-valid_step s e ok v = valid_treated (at_moment e.at.0 s).state e.bytes e.kind (moment_accepted e.at.0 s ok) (valid_moment e.at.0 s v)
+pub consistent_step : (s : State) (e : Event) → is_accepted s.config ≡ true → IsConsistent s → IsConsistent (step s e).state
+consistent_step s e ok v =
+    consistent_horizon (own_of s e).state (step s e).state.horizon
+    (consistent_treated (at_moment e.at.0 s).state e.bytes e.kind (moment_accepted e.at.0 s ok) (consistent_moment e.at.0 s v))
 
 -- ---- a run
 
@@ -92,6 +111,10 @@ run_config s (e ∷ es) = run_config (step s e).state es ∙ step_config s e
 
 pub run_accepted : (s : State) (events : List Event) → is_accepted s.config ≡ true → is_accepted (run s events).state.config ≡ true
 run_accepted s events ok = subst (λ (c : Config). is_accepted c ≡ true) (sym (run_config s events)) ok
+
+pub run_floor : (s : State) (events : List Event) → (run s events).state.floor ≡ s.floor
+run_floor s [] = refl
+run_floor s (e ∷ es) = run_floor (step s e).state es ∙ step_floor s e
 
 pub run_clock : (s : State) (events : List Event) → s.clock ≤ (run s events).state.clock
 run_clock s [] = omega arith
@@ -107,11 +130,3 @@ run_clock_most limit s [] le all = le
 run_clock_most limit s (e ∷ es) le all =
     run_clock_most limit (step s e).state es (step_clock_most limit s e le (All-head (λ (x : Event). x.at.0 ≤ limit) e es all))
     (All-tail (λ (x : Event). x.at.0 ≤ limit) e es all)
-
-pub valid_run : (s : State) (events : List Event) → is_accepted s.config ≡ true → IsValid s → IsValid (run s events).state
-valid_run s [] ok v = v
-valid_run s (e ∷ es) ok v = valid_run (step s e).state es (step_accepted s e ok) (valid_step s e ok v)
-
--- from the start on
-pub valid_from : (c : Config) (events : List Event) → is_accepted c ≡ true → IsValid (run (start c) events).state
-valid_from c events ok = valid_run (start c) events ok (valid_start c)

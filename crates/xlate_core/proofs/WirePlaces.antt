@@ -32,6 +32,7 @@ use Rattle.xlate_core.specs.nat_mapping.Rows.{expired}
 use Rattle.xlate_core.specs.port_blocks.Free.{block_anywhere, block_at, block_on, block_ports, addresses_of, is_free, port_of}
 use Rattle.xlate_core.specs.State.{State, Step}
 use Rattle.xlate_core.specs.Expiry.{Closed, with_idle_ended, closing_limit, at_moment}
+pub use Rattle.xlate_core.specs.Valid.{IsOnWire}
 use Rattle.xlate_core.specs.Grant.{after_grant}
 use Rattle.xlate_core.specs.Datagram.{Datagram, datagram_bytes, place_on, translated}
 use Rattle.xlate_core.specs.Step.{step, treatment}
@@ -111,12 +112,6 @@ block_fits c leases owner now b ok h =
     block_at_fits c leases owner now addr b lt here
 
 -- ---- a lease's owner is a prefix, and its address and ports are numbers of 32 and of 16 bits
-
-pub record IsOnWire (l : LeaseRow) : Type 0 where
-  pub owner : is_prefix6 l.owner.0 ≡ true
-  pub addr : l.addr.0 < 2 ^ 32
-  pub range : l.first ≤ l.last
-  pub last : l.last < 2 ^ 16
 
 wire_ended : (now : ℕ) (rows : List Row) (l m : LeaseRow) → MayEnd now rows l m → IsOnWire l → IsOnWire m
 wire_ended now rows l m (Lasts same) h = subst IsOnWire (sym same) h

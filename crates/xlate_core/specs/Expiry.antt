@@ -1,12 +1,12 @@
 -- What goes when the clock is raised.
 use Rattle.std.specs.Prelude.{ℕ, zero, suc, Bool, false, not, ◌&&◌, nat_le, List, [], ◌∷◌, map, filter, take, if◌then◌else◌}
 use Rattle.std.specs.List.{list_any}
-use Rattle.aftr_base.specs.Row.{is_open, ended}
+use Rattle.aftr_base.specs.Row.{is_open, ended, block_event}
 use Rattle.aftr_base.specs.declared.row.LeaseRow.{LeaseRow}
 use Rattle.aftr_base.specs.declared.event.LogEvent.{LogEvent}
 use Rattle.xlate_core.specs.declared.nat_mapping.Row.{Row}
 use Rattle.xlate_core.specs.nat_mapping.Rows.{in_use, expired}
-use Rattle.xlate_core.specs.State.{State, block_event}
+use Rattle.xlate_core.specs.State.{State}
 
 -- an open lease in whose range no row has its place
 abbrev pub is_idle : List Row → LeaseRow → Bool

@@ -17,7 +17,8 @@ use Rattle.xlate_core.specs.declared.grant.Grant.{Grant}
 use Rattle.xlate_core.specs.declared.grant.Sender.{Sender}
 use Rattle.xlate_core.specs.nat_mapping.Rows.{find_out, least_free, has_peer, peer_count, touched}
 use Rattle.xlate_core.specs.port_blocks.Free.{open_of, block_anywhere, opened}
-use Rattle.xlate_core.specs.State.{State, block_event}
+use Rattle.aftr_base.specs.Row.{block_event}
+use Rattle.xlate_core.specs.State.{State}
 
 abbrev pub at_once : Ext → Grant
 at_once e = record { place = e; lease = None }

@@ -3,6 +3,7 @@ pub mod Datagram
 pub mod Expiry
 pub mod Grant
 pub mod Inbound
+pub mod Laws
 pub mod Outbound
 pub mod Packet
 pub mod Run

@@ -1,8 +1,11 @@
 -- Whole runs: a fold of the steps.
-use Rattle.std.specs.Prelude.{List, [], ◌∷◌, ◌++◌, option_to_list}
+use Rattle.std.specs.Prelude.{ℕ, List, [], ◌∷◌, ◌++◌, option_to_list}
 use Rattle.aftr_base.specs.declared.event.Event.{Event}
 use Rattle.aftr_base.specs.declared.event.LogEvent.{LogEvent}
 use Rattle.aftr_base.specs.declared.event.DropCause.{DropCause}
+use Rattle.aftr_base.specs.declared.told.Told.{Told}
+use Rattle.aftr_base.specs.Told.{end_of}
+use Rattle.aftr_base.specs.Value.{moment}
 use Rattle.cfg_text.specs.declared.config.Config.{Config}
 use Rattle.xlate_core.specs.declared.step_out.Item.{Item}
 use Rattle.xlate_core.specs.State.{State, Step}
@@ -32,6 +35,19 @@ abbrev pub run : State → List Event → Run
 run s [] = at_rest s
 run s (e ∷ es) = let t = step s e in after_step t (run t.state es)
 
--- the state that a run starts from: nothing is mapped or leased, and only the moment 0 settles
-abbrev pub start : Config → State
-start c = record { config = c; clock = 0; floor = 0; rows = []; leases = [] }
+-- The state that a run starts from: nothing is mapped, and the rows and the horizon are those that the log tells. Up to the end
+-- of what it tells packets settle.
+abbrev pub start : Config → Told → State
+start c told = record {
+  config = c;
+  clock = 0;
+  floor = end_of told;
+  horizon = told.horizon.0;
+  rows = [];
+  leases = told.leases;
+  plans = told.plans;
+}
+
+-- what a log tells that has the rows and the horizon of a state, in so many records
+abbrev pub told_of : State → ℕ → Told
+told_of s count = record { leases = s.leases; plans = s.plans; horizon = moment s.horizon; count = count }

@@ -1,23 +1,37 @@
 -- The state of the translator, as lists in order of making.
-use Rattle.std.specs.Prelude.{ℕ, Bool, List, Option}
+use Rattle.std.specs.Prelude.{ℕ, ◌+◌, Bool, nat_lt, List, Option, max}
 use Rattle.std.specs.List.{list_any}
-use Rattle.aftr_base.specs.Value.{is_under4, moment}
+use Rattle.aftr_base.specs.Value.{is_under4}
 use Rattle.aftr_base.specs.declared.value.Ip4.{Ip4}
 use Rattle.aftr_base.specs.declared.row.LeaseRow.{LeaseRow}
+use Rattle.aftr_base.specs.declared.row.PlanRow.{PlanRow}
 use Rattle.aftr_base.specs.declared.event.DropCause.{DropCause}
 use Rattle.aftr_base.specs.declared.event.LogEvent.{LogEvent}
-use Rattle.aftr_base.specs.declared.event.LogEvent.TheVariants.{Block}
 use Rattle.cfg_text.specs.declared.config.Config.{Config}
 use Rattle.xlate_core.specs.declared.nat_mapping.Row.{Row}
 use Rattle.xlate_core.specs.declared.step_out.Item.{Item}
 
--- The clock is the greatest moment so far. A packet at or before the floor settles; the floor is 0 here.
+-- The clock is the greatest moment so far. A packet at or before the floor settles: up to there an earlier run may have
+-- named other subscribers. The log has promised names up to the horizon. Plans are carried along: none opens yet.
 pub record State : Type 0 where
   pub config : Config
   pub clock : ℕ
   pub floor : ℕ
+  pub horizon : ℕ
   pub rows : List Row
   pub leases : List LeaseRow
+  pub plans : List PlanRow
+
+-- the greatest moment that a row of the state may bear
+abbrev pub latest : State → ℕ
+latest s = max s.clock s.floor
+
+-- the clock is past the horizon, and how far the horizon then goes
+abbrev pub is_past_horizon : State → Bool
+is_past_horizon s = nat_lt s.horizon s.clock
+
+abbrev pub reach_of : State → ℕ
+reach_of s = s.clock + s.config.horizon_ms
 
 -- what a record leaves, sends and logs, and why it was dropped, if it was
 pub record Step : Type 0 where
@@ -30,7 +44,3 @@ pub record Step : Type 0 where
 -- an address of the pool
 abbrev pub is_ours : Config → Ip4 → Bool
 is_ours c a = list_any (λ p. is_under4 p a) c.pool
-
--- the log's word for a block that opens or closes (RFC 8158 4.3)
-abbrev pub block_event : Bool → ℕ → LeaseRow → LogEvent
-block_event opens now l = Block opens l.owner l.addr l.first l.last (moment now)

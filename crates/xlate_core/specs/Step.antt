@@ -1,5 +1,8 @@
--- One record: the clock, what expires, and the record's own treatment.
-use Rattle.std.specs.Prelude.{ℕ, ◌+◌, nat_le, nat_lt, List, [], ◌∷◌, ◌++◌, Option, Some, None, ok_or, Result, Ok, Err, if◌then◌else◌}
+-- One record: the clock, what expires, the record's own treatment, and the horizon.
+use Rattle.std.specs.Prelude.{ℕ, ◌+◌, Bool, ◌&&◌, ◌||◌, nat_le, nat_lt, List, [], ◌∷◌, ◌++◌, length, Option, Some, None, is_some, ok_or}
+use Rattle.std.specs.Prelude.{Result, Ok, Err}
+use Rattle.std.specs.Prelude.{if◌then◌else◌}
+use Rattle.std.specs.List.{list_any}
 use Rattle.aftr_base.specs.Attempt.{◌>>=◌, ◌>>◌, require}
 use Rattle.aftr_base.specs.Value.{moment}
 use Rattle.aftr_base.specs.declared.value.Side.{Side}
@@ -9,6 +12,7 @@ use Rattle.aftr_base.specs.declared.event.Event.{Event}
 use Rattle.aftr_base.specs.declared.event.EventKind.{EventKind}
 use Rattle.aftr_base.specs.declared.event.EventKind.TheVariants.{Softwire, Public, Tick, Change, Snapped, Foreign, Stray}
 use Rattle.aftr_base.specs.declared.event.LogEvent.{LogEvent}
+use Rattle.aftr_base.specs.declared.event.LogEvent.TheVariants.{Horizon}
 use Rattle.aftr_base.specs.declared.event.DropCause.{DropCause}
 use Rattle.aftr_base.specs.declared.event.DropCause.TheVariants.{Settling, Snapped as SnappedCause, BadPacket, NoProtocol, NoMapping}
 use Rattle.aftr_base.specs.declared.event.DropCause.TheVariants.{BadChange}
@@ -18,7 +22,7 @@ use Rattle.xlate_core.specs.declared.nat_mapping.Row.{Row}
 use Rattle.xlate_core.specs.declared.step_out.Item.{Item}
 use Rattle.xlate_core.specs.declared.grant.Grant.{Grant}
 use Rattle.xlate_core.specs.nat_mapping.Rows.{find_in}
-use Rattle.xlate_core.specs.State.{State, Step}
+use Rattle.xlate_core.specs.State.{State, Step, is_past_horizon, reach_of}
 use Rattle.xlate_core.specs.Datagram.{Datagram, datagram_bytes, place_on, key_of, inner_place, translated}
 use Rattle.xlate_core.specs.Outbound.{Outbound, outbound_of}
 use Rattle.xlate_core.specs.Inbound.{inbound_of}
@@ -99,13 +103,33 @@ treatment s Snapped bytes = refused_as_kind s SnappedCause
 treatment s Foreign bytes = refused_as_kind s NoProtocol
 treatment s Stray bytes = refused_as_kind s BadPacket
 
+-- ---- the horizon: the log promises names ahead, so that not each packet needs a record of its own
+
+-- where it has to be raised, what is then logged, and the state
+abbrev pub horizon_by : Bool → State → State
+horizon_by raised s = record s { horizon = if raised then reach_of s else s.horizon }
+
+abbrev pub promise_by : Bool → State → List LogEvent
+promise_by raised s = if raised then Horizon (moment s.clock) (moment (reach_of s)) ∷ [] else []
+
+-- a subscriber's packet goes out or a lease opens, past the horizon
+abbrev pub needs_horizon : Step → Bool
+needs_horizon t =
+    (list_any (λ (i : Item). is_some i.owner) t.items || nat_lt 0 (length t.openings)) && is_past_horizon t.state
+
+abbrev pub with_horizon : Step → Step
+with_horizon t = record t {
+  state = horizon_by (needs_horizon t) t.state;
+  openings = promise_by (needs_horizon t) t.state ++ t.openings;
+}
+
 -- what closed as the clock was raised stands before what the record itself does
 abbrev pub step : State → Event → Step
 step s e =
     let before = at_moment e.at.0 s in
-    let t = treatment before.state e.kind e.bytes in
+    let t = with_horizon (treatment before.state e.kind e.bytes) in
     record t { closings = before.closings ++ t.closings }
 
--- in the order of the log
+-- in the order of the log: closings, the horizon, openings
 abbrev pub log_of : Step → List LogEvent
 log_of t = t.closings ++ t.openings

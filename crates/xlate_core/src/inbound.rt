@@ -6,7 +6,7 @@ ghost use Rattle.xlate_core.specs.declared.nat_mapping.Row.{Row};
 ghost use Rattle.xlate_core.specs.nat_mapping.Rows.{find_in};
 ghost use Rattle.xlate_core.specs.Datagram.{inner_place};
 ghost use Rattle.xlate_core.specs.Inbound.{inbound_of};
-ghost use Rattle.xlate_core.specs.Step.{admitted_inbound, delivered_bytes, inbound_step, sent_in};
+ghost use Rattle.xlate_core.specs.Step.{admitted_inbound, delivered_bytes, inbound_step, sent_in, with_horizon};
 ghost use Rattle.xlate_core.specs.Stepped.{HasStepped};
 
 use crate::nat_mapping::Row;
@@ -67,7 +67,8 @@ impl Core {
         out: &mut StepOut,
     ) -> Result<Option<DropCause>, NoMemory>
         ensures { IfOk result
-            (λ cause. HasStepped (inbound_step self.now bytes.now) out.old self.now out.new cause) }
+            (λ cause. HasStepped
+            (with_horizon (inbound_step self.now bytes.now)) out.old self.now out.new cause) }
     {
         match self.admit_inbound(bytes) {
             Err(cause) => Ok(Some(cause)),

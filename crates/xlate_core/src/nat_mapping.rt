@@ -1,8 +1,9 @@
 //! Mapping rows and their peers (RFC 4787).
-ghost use Rattle.std.specs.Prelude.{◌≡◌, ◌<◌, ◌≤◌, ◌+◌, ◌-◌, ◌^◌, ◌++◌, [], ◌∷◌, nat_lt, length, map, min, take, slice_get, if◌then◌else◌, OnOk, OnErr, position};
+ghost use Rattle.std.specs.Prelude.{All, ◌≡◌, ◌<◌, ◌≤◌, ◌+◌, ◌-◌, ◌^◌, ◌++◌, [], ◌∷◌, nat_lt, length, map, min, take, slice_get, if◌then◌else◌, OnOk, OnErr, position};
 ghost use Rattle.std.specs.List.{list_any};
 ghost use Rattle.aftr_base.specs.Value.{ip4_eq, key_eq, number_of, place, subscriber_eq};
 ghost use Rattle.xlate_core.specs.declared.nat_mapping.Peer.{Peer};
+ghost use Rattle.xlate_core.specs.declared.nat_mapping.Row.{Row};
 ghost use Rattle.xlate_core.specs.nat_mapping.Rows.{row_at, is_at, least_free, has_peer, with_peer, touched_at, in_use, live_peers, expired, search_of, usage_of};
 
 use aftr_base::{Ext, InnerKey, Ip4, List, Moment, NoMemory, Proto, Subscriber};
@@ -49,15 +50,20 @@ pub struct Search {
 #[derive(Drop)]
 pub struct Table {
     rows: Vec<Row>,
+    // no peer goes before this moment
+    earliest: Moment,
 }
 
 impl Model for Table {
-    ghost use Rattle.std.specs.Prelude.{List};
+    ghost use Rattle.std.specs.Prelude.{List, All};
     ghost use Rattle.xlate_core.specs.declared.nat_mapping.Row.{Row};
+    ghost use Rattle.xlate_core.specs.nat_mapping.Rows.{LastsUntil};
 
     ghost Value = { List Row };
 
     ghost view = { λ t. t.rows.items };
+
+    ghost invariant = { λ t. All (LastsUntil t.earliest.0) t.rows.items };
 }
 
 impl Table {
@@ -67,6 +73,7 @@ impl Table {
     {
         Table {
             rows: Vec::new(alloc),
+            earliest: Moment(u64::MAX),
         }
     }
 
@@ -153,11 +160,13 @@ impl Table {
         })
     }
 
-    /// Adds a row behind the others. `NoMemory` changes nothing.
+    /// Adds a row that has a peer behind the others. `NoMemory` changes nothing.
     pub fn insert(&mut self, row: Row) -> Result<(), NoMemory>
+        requires { 0 < length row.peers }
         ensures ok { OnOk result (self.new ≡ self.old ++ row ∷ []) }
         ensures err { OnErr result (self.new ≡ self.old) }
     {
+        self.earliest = earliest_deadline(row.peers.as_slice(), self.earliest);
         self.rows.push(row)?;
         Ok(())
     }
@@ -169,20 +178,48 @@ impl Table {
         ensures ok { OnOk result (self.new ≡ touched_at id.0 peer self.old) }
         ensures err { OnErr result (self.new ≡ self.old) }
     {
+        self.earliest = Moment(self.earliest.0.min(peer.deadline.0));
         let row = &mut self.rows[id.0];
         put_peer(&mut row.peers, peer)
     }
 
     /// Lets the peers go whose deadline is not past `now`, and then the rows that have none left
-    /// (RFC 4787 4.3). The answer is whether a row went. It takes no memory.
+    /// (RFC 4787 4.3). The answer is whether a row went. It takes no memory, and visits no row where no deadline has come.
     pub fn expire(&mut self, now: Moment) -> bool
         ensures rows { self.new ≡ expired now.0 self.old }
         ensures went { result ≡ nat_lt (length self.new) (length self.old) }
     {
+        if now.0 < self.earliest.0 {
+            return false;
+        }
         let before = self.rows.len();
         self.rows.retain_mut(|row| is_live_at(now, row));
+        self.earliest = earliest_of(self.rows.as_slice());
         self.rows.len() < before
     }
+}
+
+// a moment before which none of the peers of these rows goes
+fn earliest_of(rows: &[Row]) -> Moment
+    ensures { All (λ (r : Row). All (λ (p : Peer). result.0 ≤ p.deadline.0) r.peers) rows.now }
+{
+    let mut earliest = Moment(u64::MAX);
+    for row in rows {
+        earliest = earliest_deadline(row.peers.as_slice(), earliest);
+    }
+    earliest
+}
+
+// the least of this moment and of the deadlines
+fn earliest_deadline(peers: &[Peer], or: Moment) -> Moment
+    ensures before { result.0 ≤ or.0 }
+    ensures each { All (λ (p : Peer). result.0 ≤ p.deadline.0) peers.now }
+{
+    let mut earliest = or;
+    for peer in peers {
+        earliest = Moment(earliest.0.min(peer.deadline.0));
+    }
+    earliest
 }
 
 /// Whether one of the peers is at this address.

@@ -2,7 +2,7 @@
 ghost use Rattle.std.specs.Prelude.{◌≡◌, Ok, Err, None, IfOk, IfErr, OnOk};
 ghost use Rattle.xlate_core.specs.Datagram.{key_of};
 ghost use Rattle.xlate_core.specs.Outbound.{drop_for, carried_to, inner_of, tunnelled, outward, outbound_of};
-ghost use Rattle.xlate_core.specs.Step.{admitted_outbound, mapped, outbound_step, sent_out};
+ghost use Rattle.xlate_core.specs.Step.{admitted_outbound, mapped, outbound_step, sent_out, with_horizon};
 ghost use Rattle.xlate_core.specs.Stepped.{HasStepped};
 ghost use Rattle.xlate_core.specs.nat_mapping.Rows.{row_of};
 ghost use Rattle.wire_ip6.specs.Chain.{chain_in};
@@ -160,7 +160,7 @@ impl Core {
     ) -> Result<Option<DropCause>, NoMemory>
         ensures { IfOk result
             (λ cause. HasStepped
-            (outbound_step self.old bytes.now) out.old self.new out.new cause) }
+            (with_horizon (outbound_step self.old bytes.now)) out.old self.new out.new cause) }
     {
         match self.admit_outbound(bytes) {
             Err(cause) => Ok(Some(cause)),
@@ -203,7 +203,8 @@ impl Core {
             admitted.now.row ≡ row_of (key_of got.who.softwire got.datagram) self.old.rows }
         requires grant { mapped self.old admitted.now.got ≡ Ok admitted.now.grant }
         ensures { OnOk result (HasStepped
-            (sent_out self.old admitted.now.got admitted.now.grant) out.old self.new out.new None) }
+            (with_horizon (sent_out self.old admitted.now.got admitted.now.grant))
+            out.old self.new out.new None) }
     {
         let flow = admitted.got.flow();
         let bytes = admitted
@@ -212,7 +213,8 @@ impl Core {
             .translated(alloc, true, admitted.grant.place)?;
         let item = self.item(Side::Public, Some(flow.who.owner), bytes);
         out.items.push(item)?;
-        self.log_opening(&admitted.grant, &mut out.log)?;
-        self.keep(alloc, &flow, admitted.row, &admitted.grant)
+        self.keep(alloc, &flow, admitted.row, &admitted.grant)?;
+        self.raise_horizon(&mut out.log)?;
+        self.log_opening(&admitted.grant, &mut out.log)
     }
 }

@@ -1,12 +1,11 @@
 //! Blocks of ports, and who leases them.
-ghost use Rattle.std.specs.Prelude.{◌≡◌, ◌+◌, ◌-◌, ◌<◌, ◌≤◌, ◌++◌, [], ◌∷◌, ◌&&◌, OnOk, OnErr, IfSome, length, true};
+ghost use Rattle.std.specs.Prelude.{◌≡◌, ◌+◌, ◌-◌, ◌<◌, ◌≤◌, ◌++◌, [], ◌∷◌, ◌&&◌, OnOk, OnErr, IfOk, IfSome, length, true};
 ghost use Rattle.std.specs.List.{list_all, list_any};
 ghost use Rattle.aftr_base.specs.Attempt.{first_some};
 ghost use Rattle.aftr_base.specs.Plan.{is_pool_prefix, size4};
-ghost use Rattle.aftr_base.specs.Row.{is_open};
+ghost use Rattle.aftr_base.specs.Row.{is_open, block_event};
 ghost use Rattle.aftr_base.specs.Value.{subscriber_eq};
 ghost use Rattle.xlate_core.specs.port_blocks.Free.{has_ended_for, last_port, is_free, block_on, block_at, addresses_in, block_anywhere, opened};
-ghost use Rattle.xlate_core.specs.State.{block_event};
 
 use aftr_base::{Ip4, LeaseRow, LogEvent, Moment, NoMemory, Prefix4, Subscriber};
 use cfg_text::Config;
@@ -35,13 +34,12 @@ impl Model for Blocks {
 }
 
 impl Blocks {
-    /// No leases, which takes no memory.
-    pub fn new(alloc: Global) -> Self
-        ensures { result ≡ [] }
+    /// Copies of these leases.
+    pub fn from_rows(alloc: Global, leases: &[LeaseRow]) -> Result<Self, NoMemory>
+        ensures { IfOk result (λ blocks. blocks ≡ leases.now) }
     {
-        Blocks {
-            leases: Vec::new(alloc),
-        }
+        let leases = Vec::from_slice(alloc, leases)?;
+        Ok(Blocks { leases })
     }
 
     /// The leases in order of opening.

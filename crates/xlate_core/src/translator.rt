@@ -1,28 +1,29 @@
 //! The translator: events to packets, one record after another.
-ghost use Rattle.std.specs.Prelude.{◌≡◌, ◌≤◌, true, IfOk};
+ghost use Rattle.std.specs.Prelude.{◌≡◌, ◌≤◌, IfOk};
 ghost use Rattle.aftr_base.specs.Limits.{moment_limit};
-ghost use Rattle.cfg_text.specs.Accepted.{is_accepted};
-ghost use Rattle.xlate_core.specs.Run.{start as start_of};
-ghost use Rattle.xlate_core.specs.Step.{dropped, item, refused_as_kind, step, treatment};
+ghost use Rattle.xlate_core.specs.Step.{dropped, item, refused_as_kind, step, treatment, with_horizon};
 ghost use Rattle.xlate_core.specs.Stepped.{HasStepped};
 
 use crate::nat_mapping::Table;
 use crate::port_blocks::Blocks;
 use crate::step_out::{Item, StepOut};
-use aftr_base::{DropCause, Event, EventKind, List, Moment, NoMemory, Side, Subscriber};
+use aftr_base::{DropCause, Event, EventKind, List, Moment, NoMemory, PlanRow, Side, Subscriber};
 use cfg_text::Config;
 use std::alloc::Global;
 use std::marker::Model;
 
-/// The translator's state: the clock in milliseconds, the mappings and the leases. The floor is the moment up to
-/// which packets settle.
+/// The translator's state: the clock, the mappings, the leases and the plans. The floor is the moment up to which packets
+/// settle, and the horizon that up to which the log promises names.
 #[derive(Drop)]
 pub struct Core {
     pub(crate) config: Config,
     pub(crate) clock: Moment,
     pub(crate) floor: Moment,
+    pub(crate) horizon: Moment,
     pub(crate) table: Table,
     pub(crate) blocks: Blocks,
+    // carried along: no run opens one yet
+    pub(crate) plans: List<PlanRow>,
     // whether a row is known to have its place in each open lease, so that none is idle
     pub(crate) all_used: bool,
 }
@@ -40,8 +41,10 @@ impl Model for Core {
       config = c.config;
       clock = c.clock.0;
       floor = c.floor.0;
+      horizon = c.horizon.0;
       rows = c.table;
       leases = c.blocks;
+      plans = c.plans;
     } };
 
     ghost invariant = { λ c. (is_accepted c.config ≡ true) × (c.clock.0 ≤ moment_limit)
@@ -49,24 +52,10 @@ impl Model for Core {
 }
 
 impl Core {
-    /// The state at the start, under an accepted configuration: no mapping and no lease.
-    pub fn start(alloc: Global, config: Config) -> Result<Self, NoMemory>
-        requires { is_accepted config ≡ true }
-        ensures { IfOk result (λ core. core ≡ start_of config) }
-    {
-        Ok(Core {
-            config,
-            clock: Moment(0),
-            floor: Moment(0),
-            table: Table::new(alloc),
-            blocks: Blocks::new(alloc),
-            all_used: true,
-        })
-    }
-
     /// The greatest moment so far.
     pub fn clock(&self) -> Moment
-        ensures { result.0 ≡ self.now.clock }
+        ensures moment { result.0 ≡ self.now.clock }
+        ensures within { result.0 ≤ moment_limit }
     {
         self.clock
     }
@@ -76,6 +65,20 @@ impl Core {
         ensures { result.0 ≡ self.now.floor }
     {
         self.floor
+    }
+
+    /// The greatest moment up to which the log promises names, once it has what was logged so far.
+    pub fn horizon(&self) -> Moment
+        ensures { result.0 ≡ self.now.horizon }
+    {
+        self.horizon
+    }
+
+    /// How many bytes the log may have, by the configuration in force.
+    pub fn log_limit(&self) -> u64
+        ensures { result ≡ self.now.config.log_limit }
+    {
+        self.config.log_limit
     }
 
     /// Takes one record through the translator: its packets and log events are added to `out`, and the answer is why it
@@ -94,7 +97,7 @@ impl Core {
         self.treat(alloc, event, out)
     }
 
-    // the record's own treatment, at the clock
+    // the record's own treatment, at the clock, and the horizon that it needs
     fn treat(
         &mut self,
         alloc: Global,
@@ -102,7 +105,8 @@ impl Core {
         out: &mut StepOut,
     ) -> Result<Option<DropCause>, NoMemory>
         ensures { IfOk result (λ cause. HasStepped
-            (treatment self.old event.now.kind event.now.bytes) out.old self.new out.new cause) }
+            (with_horizon (treatment self.old event.now.kind event.now.bytes))
+            out.old self.new out.new cause) }
     {
         match event.kind {
             EventKind::Softwire => self.step_outbound(alloc, event.bytes.as_slice(), out),

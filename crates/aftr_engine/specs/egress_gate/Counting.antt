@@ -1,5 +1,5 @@
 -- What a step adds to the counts.
-use Rattle.std.specs.Prelude.{◌≡◌, ◌<◌, ◌+◌, ◌^◌, List, [], ◌++◌, length, option_to_list, EachIndex, slice_index}
+use Rattle.std.specs.Prelude.{◌≡◌, ℕ, ◌<◌, ◌+◌, ◌^◌, List, [], ◌++◌, length, option_to_list, EachIndex, slice_index}
 use Rattle.aftr_base.specs.declared.event.DropCause.{DropCause}
 use Rattle.aftr_engine.specs.declared.tally.Tally.{Tally}
 use Rattle.xlate_core.specs.State.{Step}
@@ -10,6 +10,11 @@ pub record HasCounted (t : Step) (before after : Tally) : Type 0 where
   pub records : after.records ≡ before.records + 1
   pub sent : after.sent ≡ before.sent + length t.items
   pub drops : (drops : List DropCause) → before.drops.0 ≡ drop_counts drops → after.drops.0 ≡ drop_counts (drops ++ option_to_list t.drop)
+
+-- what passed a gate, counted, and how many data records the log has
+pub record Passed : Type 0 where
+  pub tally : Tally
+  pub count : ℕ
 
 -- no count is near its type's end
 pub record AreFew (t : Tally) : Type 0 where

@@ -1,11 +1,12 @@
 -- What a call answers and prints, of what its command has done.
 use Rattle.std.specs.Prelude.{◌≡◌, ◌≢◌, ◌⊎◌, ℕ, List, [], ◌++◌}
 use Rattle.plant_io.specs.Sink.{GainsPart}
+use Rattle.disk_journal.specs.Attach.{IsKept as IsKeptSince}
 use Rattle.aftr_base.specs.Drops.{drop_counts}
 use Rattle.aftr_base.specs.declared.outcome.Status.{Status}
 use Rattle.aftr_base.specs.declared.outcome.Status.TheVariants.{Ok, BadWords, OutFault}
 use Rattle.aftr_engine.specs.report.Lines.{fault_line}
-use Rattle.plant_io.specs.Uses.{HasRisen, SinkUse}
+use Rattle.plant_io.specs.Uses.{HasRisen, PlantUse, SinkUse}
 
 -- The text of an end: an answer where it ends well, and else the line of its fault; an outlet that failed has none.
 pub record IsText (IsAnswer : List ℕ → Type 0) (status : Status) (text : List ℕ) : Type 0 where
@@ -31,6 +32,10 @@ pub record IsReported (report : SinkUse) (status : Status) (HasDone : Status →
 pub record PrintsFault (report : SinkUse) (status : Status) : Type 0 where
   pub line : report.tells → status ≢ Ok → status ≢ OutFault → report.now ≡ report.past ++ fault_line status
   pub behind : report.tells → (more : List ℕ) × (report.now ≡ report.past ++ more)
+
+-- the log has the bytes that it had, and nothing was sent; it may have been synced
+abbrev pub IsKept : PlantUse → Type 0
+IsKept plant = IsKeptSince plant.before plant.after
 
 -- words that are no command are refused before anything is looked at
 pub record IsNoCommand (drops : List ℕ) (status : Status) (text : List ℕ) : Type 0 where

@@ -1,19 +1,24 @@
 -- What a run has done: it was refused before its records, or it treated them.
-use Rattle.std.specs.Prelude.{◌≡◌, ◌≢◌, ◌⊎◌, ◌<◌, ℕ, List, [], ◌∷◌, ◌++◌, length, codes, Ok}
+use Rattle.std.specs.Prelude.{◌≡◌, ◌≢◌, ◌⊎◌, ◌<◌, ◌≤◌, ◌+◌, ℕ, List, [], ◌∷◌, ◌++◌, length, codes, max, Ok, Err}
 use Rattle.plant_io.specs.Sink.{GainsPart}
 use Rattle.plant_io.specs.Story.{content, sent, IsSettled}
 use Rattle.plant_io.specs.declared.source.Source as source
 use Rattle.aftr_base.specs.Drops.{drop_counts}
 use Rattle.aftr_base.specs.declared.outcome.Status.{Status}
-use Rattle.aftr_base.specs.declared.outcome.Status.TheVariants.{BadConfig, ReadFault, LogFault, AlreadyThere, NoMemory}
+use Rattle.aftr_base.specs.declared.told.Told.{Told}
+use Rattle.aftr_base.specs.declared.outcome.Status.TheVariants.{BadConfig, ReadFault, LogFault, LogDamaged, LogFull, NoMemory}
 use Rattle.cfg_text.specs.declared.config.Config.{Config}
-use Rattle.aftr_engine.specs.lease_log.Told.{told_by}
+use Rattle.lease_log.specs.Log.{Log, log_of}
 use Rattle.aftr_engine.specs.report.Lines.{summary}
-use Rattle.aftr_engine.specs.session.EndToEnd.{run_of, output_of, log_of, counts_of, summary_of}
+use Rattle.aftr_engine.specs.egress_gate.Logged.{Tells}
+use Rattle.aftr_engine.specs.session.EndToEnd.{run_of, output_of, counts_of, summary_of, told_behind}
 use Rattle.plant_io.specs.Uses.{HasRisen, SourceUse, PlantUse}
 use Rattle.aftr_engine.specs.session.Begun.{StopsFor, IsAtRecordsEnd}
 use Rattle.aftr_engine.specs.session.Fronts.{HasCome}
 use Rattle.aftr_engine.specs.engine.Reported.{IsText}
+use Rattle.recovery.specs.Answers.{HasNoRoom}
+use Rattle.recovery.specs.Closings.{recovered}
+use Rattle.recovery.specs.Leaves.{IsClosing}
 
 -- ---- the objects
 
@@ -37,52 +42,94 @@ first_use g before after = record {
 
 -- ---- before the records
 
--- Why a run is refused, in this order: its configuration has a byte, or its log has one. Each may fail to be looked at.
-abbrev pub RefusesFor : SourceUse → PlantUse → Status → Type 0
-RefusesFor config plant (BadConfig key) = (key ≡ codes "text") × (config.tells → 0 < length config.bytes)
-RefusesFor config plant ReadFault = HasRisen config.faults
-RefusesFor config plant LogFault = (config.tells → config.bytes ≡ []) × HasRisen plant.disk
-RefusesFor config plant (AlreadyThere size) =
-    (config.tells → config.bytes ≡ []) × (0 < size) × (plant.tells → size ≡ length (content plant.before))
-RefusesFor config plant NoMemory = Unit {0}
-RefusesFor config plant other = ⊥
+-- Why a configuration is refused: it has a byte, or it can't be looked at.
+abbrev pub RefusesConfig : SourceUse → Status → Type 0
+RefusesConfig config (BadConfig key) = (key ≡ codes "text") × (config.tells → 0 < length config.bytes)
+RefusesConfig config ReadFault = HasRisen config.faults
+RefusesConfig config NoMemory = Unit {0}
+RefusesConfig config other = ⊥
 
--- A refused run takes no byte of its input, leaves the log and the outlet as they were, and drops nothing.
-pub record IsRefused (config input : SourceUse) (plant : PlantUse) (drops : List ℕ) (status : Status) : Type 0 where
-  pub reason : RefusesFor config plant status
+-- the next closings would pass the limit, and those before them are told
+pub record LacksRoom (most : ℕ) (plant : PlantUse) (tail need limit : ℕ) : Type 0 where
+  pub bound : limit ≡ most
+  pub full : limit < tail + need
+  pub numbers : plant.tells → HasNoRoom most (content plant.before) (content plant.after) tail need limit
+
+-- the same bytes, or a log of the same rows, some of them closed at the told horizon
+abbrev pub KeepsRows : List ℕ → List ℕ → Type 0
+KeepsRows before after = (after ≡ before) ⊎ IsClosing before after
+
+-- Why a log is refused: it is damaged, the closings of its open rows have no room, or it can't be looked at.
+abbrev pub RefusesLog : ℕ → PlantUse → Status → Type 0
+RefusesLog most plant LogFault = HasRisen plant.disk
+RefusesLog most plant (LogDamaged offset) = plant.tells → log_of (content plant.before) ≡ Err offset
+RefusesLog most plant (LogFull tail need limit) = LacksRoom most plant tail need limit
+RefusesLog most plant NoMemory = Unit {0}
+RefusesLog most plant other = ⊥
+
+-- Why a run is refused: by its configuration, or, where that has no byte, by its log.
+abbrev pub RefusesFor : Config → SourceUse → PlantUse → Status → Type 0
+RefusesFor c config plant status =
+    RefusesConfig config status ⊎ ((config.tells → config.bytes ≡ []) × RefusesLog c.log_limit plant status)
+
+-- What a refused run leaves of the log: its bytes, or its rows, some of them closed at the told horizon. Of a log that failed
+-- only what a stop leaves is known.
+abbrev pub LeavesRows : PlantUse → Status → Type 0
+LeavesRows plant LogFault = Unit {0}
+LeavesRows plant (LogFull tail need limit) = KeepsRows (content plant.before) (content plant.after)
+LeavesRows plant NoMemory = KeepsRows (content plant.before) (content plant.after)
+LeavesRows plant other = content plant.after ≡ content plant.before
+
+-- A refused run takes no byte of its input, sends nothing, leaves the log's rows, and drops nothing.
+pub record IsRefused (c : Config) (config input : SourceUse) (plant : PlantUse) (drops : List ℕ) (status : Status) : Type 0 where
+  pub reason : RefusesFor c config plant status
   pub unread : input.tells → input.left ≡ input.bytes
-  pub same : plant.tells → plant.after ≡ plant.before
+  pub unsent : plant.tells → sent plant.after ≡ sent plant.before
+  pub rows : plant.tells → LeavesRows plant status
   pub undropped : drops ≡ drop_counts []
 
 -- ---- the records
 
--- All records were treated: what was sent, logged and dropped is what the translator's run over them sends, logs and drops. The
--- log tells that run's leases.
-pub record IsWhole (c : Config) (input : SourceUse) (plant : PlantUse) (drops : List ℕ) : Type 0 where
-  pub packets : input.tells → plant.tells → sent plant.after ≡ sent plant.before ++ output_of c input.bytes
-  pub logged : input.tells → plant.tells → content plant.after ≡ log_of c input.bytes
-  pub told : input.tells → plant.tells → told_by (content plant.after) ≡ Ok (run_of c input.bytes).state.leases
-  pub counts : input.tells → drops ≡ counts_of c input.bytes
+-- The log has no more bytes that count than it had, or than the limit.
+abbrev pub KeepsRoom : ℕ → List ℕ → List ℕ → Type 0
+KeepsRoom limit before after =
+    (was now : Log) → log_of before ≡ Ok was → log_of after ≡ Ok now → now.tail ≤ max was.tail limit
 
--- A run with no configuration bytes, onto an empty log. Wherever it ended, its packets are a part of the output, from its
--- start; and the log is settled, unless it failed.
+-- All records were treated: what was sent and dropped is what the translator's run over them sends and drops, and the log tells
+-- that run's rows and horizon, in no more room than it had or than the configuration lets it have.
+pub record IsWhole (c : Config) (from : Told) (input : SourceUse) (plant : PlantUse) (drops : List ℕ) : Type 0 where
+  pub packets : input.tells → plant.tells → sent plant.after ≡ sent plant.before ++ output_of c from input.bytes
+  pub told : input.tells → plant.tells → Tells (content plant.after) (told_behind from (run_of c from input.bytes))
+  pub room : plant.tells → KeepsRoom c.log_limit (content plant.before) (content plant.after)
+  pub counts : input.tells → drops ≡ counts_of c from input.bytes
+
+-- this is what the file told, with all rows closed
+pub record BeginsFrom (file : List ℕ) (from : Told) : Type 0 where
+  pub was : Told
+  pub tells : Tells file was
+  pub closed : from ≡ recovered was
+
+-- A run with no configuration bytes, from what its log told with all rows closed. Wherever it ended, its packets are a part of the
+-- output, from its start; and the log is settled, unless it failed.
 pub record HasRun (c : Config) (config input : SourceUse) (plant : PlantUse) (drops : List ℕ) (status : Status) : Type 0 where
   pub unset : config.tells → config.bytes ≡ []
-  pub empty : plant.tells → content plant.before ≡ []
-  pub reason : StopsFor input plant status
-  pub whole : IsAtRecordsEnd status → IsWhole c input plant drops
-  pub came : HasCome c input plant drops status
-  pub part : input.tells → plant.tells → GainsPart (output_of c input.bytes) (sent plant.before) (sent plant.after)
+  pub from : Told
+  pub onto : plant.tells → BeginsFrom (content plant.before) from
+  pub reason : StopsFor c input plant status
+  pub whole : IsAtRecordsEnd status → IsWhole c from input plant drops
+  pub came : HasCome c from input plant drops status
+  pub part : input.tells → plant.tells → GainsPart (output_of c from input.bytes) (sent plant.before) (sent plant.after)
   pub settled : plant.tells → status ≢ LogFault → IsSettled plant.after
 
 -- what a run prints that ends well: how many records and packets there were, and what was dropped
-pub record IsSummary (c : Config) (input : SourceUse) (drops text : List ℕ) : Type 0 where
+pub record IsSummary (c : Config) (input : SourceUse) (plant : PlantUse) (drops text : List ℕ) : Type 0 where
   pub records : ℕ
   pub packets : ℕ
   pub says : text ≡ summary records packets drops
-  pub whole : input.tells → text ≡ summary_of c input.bytes
+  pub whole : (was : Told) → input.tells → plant.tells → Tells (content plant.before) was
+      → text ≡ summary_of c (recovered was) input.bytes
 
 pub record RanAs (c : Config) (config input : SourceUse) (plant : PlantUse) (drops : List ℕ) (status : Status)
     (text : List ℕ) : Type 0 where
-  pub did : IsRefused config input plant drops status ⊎ HasRun c config input plant drops status
-  pub says : IsText (IsSummary c input drops) status text
+  pub did : IsRefused c config input plant drops status ⊎ HasRun c config input plant drops status
+  pub says : IsText (IsSummary c input plant drops) status text

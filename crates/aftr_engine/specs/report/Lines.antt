@@ -6,6 +6,11 @@ use Rattle.aftr_base.specs.declared.value.Ip4.{Ip4}
 use Rattle.aftr_base.specs.declared.value.Moment.{Moment}
 use Rattle.aftr_base.specs.declared.value.Subscriber.{Subscriber}
 use Rattle.aftr_base.specs.declared.row.LeaseRow.{LeaseRow}
+use Rattle.aftr_base.specs.declared.row.PlanRow.{PlanRow}
+use Rattle.aftr_base.specs.declared.told.Told.{Told}
+use Rattle.trace_query.specs.declared.Named.{Named}
+use Rattle.trace_query.specs.declared.Named.TheVariants.{Subscriber as NamedSubscriber, Unheld, Beyond}
+use Rattle.nat_events.specs.PlanText.{plan_text}
 use Rattle.aftr_base.specs.declared.outcome.Status.{Status}
 use Rattle.aftr_base.specs.declared.outcome.Status.TheVariants.{Ok, BadWords, BadConfig, BadInput, ReadFault, LogFault, OutFault}
 use Rattle.aftr_base.specs.declared.outcome.Status.TheVariants.{LogDamaged, LogFull, AlreadyThere, NoMemory}
@@ -57,9 +62,10 @@ groups (suc (suc k)) n = group (n / 65536 ^ suc k % 65536) ++ 58 ∷ groups (suc
 abbrev pub prefix_text : Subscriber → List ℕ
 prefix_text s = groups 8 s.0.bits.0 ++ 47 ∷ decimal s.0.len
 
-abbrev pub trace_line : Option Subscriber → List ℕ
-trace_line None = line (codes "unheld" ∷ [])
-trace_line (Some s) = line (codes "named" ∷ prefix_text s ∷ [])
+abbrev pub trace_line : Named → List ℕ
+trace_line (NamedSubscriber s) = line (codes "named" ∷ prefix_text s ∷ [])
+trace_line Unheld = line (codes "unheld" ∷ [])
+trace_line (Beyond m) = line (codes "beyond" ∷ decimal m.0 ∷ [])
 
 abbrev pub until_text : Option Moment → List ℕ
 until_text None = codes "open"
@@ -70,8 +76,21 @@ lease_line l =
     line (codes "lease" ∷ ip4_text l.addr ∷ decimal l.first ∷ decimal l.last ∷ decimal l.since.0 ∷ until_text l.until
     ∷ prefix_text l.owner ∷ [])
 
-abbrev pub leases_text : List LeaseRow → List ℕ
-leases_text leases = flat_map lease_line leases
+abbrev pub lease_lines : List LeaseRow → List ℕ
+lease_lines leases = flat_map lease_line leases
+
+abbrev pub plan_line : PlanRow → List ℕ
+plan_line p = line (codes "plan" ∷ decimal p.since.0 ∷ until_text p.until ∷ plan_text p.spec ∷ [])
+
+abbrev pub plan_lines : List PlanRow → List ℕ
+plan_lines plans = flat_map plan_line plans
+
+abbrev pub horizon_line : ℕ → List ℕ
+horizon_line horizon = line (codes "horizon" ∷ decimal horizon ∷ [])
+
+-- all that a log tells
+abbrev pub told_text : Told → List ℕ
+told_text t = lease_lines t.leases ++ plan_lines t.plans ++ horizon_line t.horizon.0
 
 -- ---- faults
 

@@ -1,8 +1,10 @@
 -- A run at its start, and why it stops.
-use Rattle.std.specs.Prelude.{◌≡◌, ℕ, List, [], length}
+use Rattle.std.specs.Prelude.{◌≡◌, ◌<◌, ℕ, ◌+◌, List, [], length}
+use Rattle.aftr_base.specs.declared.told.Told.{Told}
 use Rattle.aftr_base.specs.declared.outcome.Status.{Status}
-use Rattle.aftr_base.specs.declared.outcome.Status.TheVariants.{Ok, BadInput, ReadFault, LogFault, OutFault, NoMemory}
+use Rattle.aftr_base.specs.declared.outcome.Status.TheVariants.{Ok, BadInput, ReadFault, LogFault, LogFull, OutFault, NoMemory}
 use Rattle.cfg_text.specs.declared.config.Config.{Config}
+use Rattle.xlate_core.specs.Run.{told_of}
 use Rattle.xlate_core.specs.Run.{start}
 use Rattle.aftr_engine.specs.link_records.Frames.{frames_of, AtEnd, BadAt}
 use Rattle.aftr_engine.specs.declared.session.Session.{Session}
@@ -13,32 +15,37 @@ use Rattle.aftr_engine.specs.session.Progress.{TalliesRun}
 use Rattle.plant_io.specs.Uses.{HasRisen, SourceUse, PlantUse}
 
 abbrev pub tally_of : Session → Tally
-tally_of s = s.gate
+tally_of s = s.gate.tally
 
 abbrev pub config_of : Session → Config
 config_of s = s.core.config
 
--- nothing was read, translated, logged or counted
-pub record HasBegun (c : Config) (s : Session) : Type 0 where
+-- what the log tells, by the rows that the session has
+abbrev pub told_at : Session → Told
+told_at s = told_of s.core s.gate.count
+
+-- nothing was read, translated, logged or counted since the log told this
+pub record HasBegun (c : Config) (told : Told) (s : Session) : Type 0 where
   pub held : s.reader.held ≡ []
   pub offset : s.reader.offset ≡ 0
-  pub state : s.core ≡ start c
-  pub log : s.journal ≡ 0
-  pub counts : IsZero s.gate
+  pub state : s.core ≡ start c told
+  pub count : s.gate.count ≡ told.count
+  pub counts : IsZero s.gate.tally
 
 -- the counts are those of the run over the input
-abbrev pub TalliesAs : Config → List ℕ → Tally → Type 0
-TalliesAs c input t = TalliesRun (run_of c input) (length (frames_of input).events) t
+abbrev pub TalliesAs : Config → Told → List ℕ → Tally → Type 0
+TalliesAs c told input t = TalliesRun (run_of c told input) (length (frames_of input).events) t
 
--- Each way to stop has its cause: the end of the records, a count of faults that rose, or want of memory.
-abbrev pub StopsFor : SourceUse → PlantUse → Status → Type 0
-StopsFor input plant Ok = input.tells → (frames_of input.bytes).stop ≡ AtEnd
-StopsFor input plant (BadInput k offset) = (k ≡ 0) × (input.tells → (frames_of input.bytes).stop ≡ BadAt offset)
-StopsFor input plant ReadFault = HasRisen input.faults
-StopsFor input plant LogFault = HasRisen plant.disk
-StopsFor input plant OutFault = HasRisen plant.outlet
-StopsFor input plant NoMemory = Unit {0}
-StopsFor input plant other = ⊥
+-- Each way to stop has its cause: the end of the records, a count of faults that rose, a log without room, or want of memory.
+abbrev pub StopsFor : Config → SourceUse → PlantUse → Status → Type 0
+StopsFor c input plant Ok = input.tells → (frames_of input.bytes).stop ≡ AtEnd
+StopsFor c input plant (BadInput k offset) = (k ≡ 0) × (input.tells → (frames_of input.bytes).stop ≡ BadAt offset)
+StopsFor c input plant ReadFault = HasRisen input.faults
+StopsFor c input plant LogFault = HasRisen plant.disk
+StopsFor c input plant (LogFull tail need limit) = (limit ≡ c.log_limit) × (limit < tail + need)
+StopsFor c input plant OutFault = HasRisen plant.outlet
+StopsFor c input plant NoMemory = Unit {0}
+StopsFor c input plant other = ⊥
 
 -- all records were treated
 abbrev pub IsAtRecordsEnd : Status → Type 0

@@ -1,12 +1,14 @@
 -- How far a run has come, by the records that it has seen.
 use Rattle.std.specs.Prelude.{◌≡◌, ℕ, List, ◌++◌, length}
 use Rattle.aftr_base.specs.declared.event.Event.{Event}
+use Rattle.aftr_base.specs.declared.told.Told.{Told}
 use Rattle.aftr_base.specs.Drops.{drop_counts}
 use Rattle.xlate_core.specs.Run.{Run}
 use Rattle.aftr_engine.specs.link_records.Frames.{Input, frames_of, frames_from}
-use Rattle.aftr_engine.specs.nat_events.Spelling.{log_bytes}
+use Rattle.aftr_engine.specs.egress_gate.Logged.{EndsAt}
 use Rattle.aftr_engine.specs.egress_gate.Output.{output}
 use Rattle.aftr_engine.specs.declared.tally.Tally.{Tally}
+use Rattle.aftr_engine.specs.session.EndToEnd.{told_behind}
 
 -- these records before those of an input
 abbrev pub with_events : List Event → Input → Input
@@ -18,10 +20,10 @@ pub record TalliesRun (r : Run) (number : ℕ) (t : Tally) : Type 0 where
   pub sent : t.sent ≡ length r.items
   pub drops : t.drops.0 ≡ drop_counts r.drops
 
--- its packets were sent and its leases logged
-pub record HasSent (r : Run) (past now log : List ℕ) : Type 0 where
+-- its packets were sent, and the log tells what it came to
+pub record HasSent (told : Told) (r : Run) (past now log : List ℕ) (tail : ℕ) : Type 0 where
   pub packets : now ≡ past ++ output r.items
-  pub leases : log ≡ log_bytes r.log
+  pub tells : EndsAt log (told_behind told r) tail
 
 -- The records are those before this offset of the input, where these bytes are left: the bytes before it hold these records,
 -- whatever comes behind them.

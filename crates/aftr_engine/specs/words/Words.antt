@@ -6,7 +6,9 @@ use Rattle.aftr_base.specs.Bytes.{split_on}
 use Rattle.aftr_base.specs.Value.{ip4, moment, is_within}
 use Rattle.aftr_base.specs.declared.value.Ip4.{Ip4}
 use Rattle.aftr_engine.specs.declared.words.Command.{Command}
-use Rattle.aftr_engine.specs.declared.words.Command.TheVariants.{Run, Trace, Leases}
+use Rattle.aftr_engine.specs.declared.words.Command.TheVariants.{Init, Run, Trace, Leases}
+use Rattle.aftr_engine.specs.declared.words.LogUse.{LogUse}
+use Rattle.aftr_engine.specs.declared.words.LogUse.TheVariants.{Reads, Writes}
 use Rattle.aftr_engine.specs.declared.words.Paths.{Paths}
 use Rattle.aftr_base.specs.Limits.{log_moment_limit}
 
@@ -50,9 +52,12 @@ address_of word = address_in (split_on 46 word)
 abbrev pub traced : Option Ip4 → Option ℕ → Option ℕ → Option Command
 traced addr port at = option_and_then (λ (a : Ip4). option_and_then (λ (p : ℕ). option_map (λ (m : ℕ). Trace a p (moment m)) at) port) addr
 
--- leases LOG
+-- init LOG, and leases LOG
 abbrev pub with_one : List ℕ → Option Command
-with_one name = if bytes_eq name (codes "leases") then Some Leases else None
+with_one name =
+    if bytes_eq name (codes "init") then Some Init
+    else if bytes_eq name (codes "leases") then Some Leases
+    else None
 
 -- run CONFIG LOG OUTLET INPUT, and trace LOG ADDRESS PORT MOMENT
 abbrev pub with_four : List ℕ → List ℕ → List ℕ → List ℕ → Option Command
@@ -74,12 +79,20 @@ command_for words = if list_any is_odd words then None else command_in words
 
 -- where the words of a command have its paths
 abbrev pub paths_with : Command → Paths
+paths_with Init = record { config = None; log = Some 1; outlet = None; first = 0; count = 0 }
 paths_with Run = record { config = Some 1; log = Some 2; outlet = Some 3; first = 4; count = 1 }
 paths_with (Trace addr port at) = record { config = None; log = Some 1; outlet = None; first = 0; count = 0 }
 paths_with Leases = record { config = None; log = Some 1; outlet = None; first = 0; count = 0 }
 
 abbrev pub paths_for : List (List ℕ) → Option Paths
 paths_for words = option_map paths_with (command_for words)
+
+-- what a command does with its log
+abbrev pub log_use : Command → LogUse
+log_use Init = Writes
+log_use Run = Writes
+log_use (Trace addr port at) = Reads
+log_use Leases = Reads
 
 -- how many inputs the words name
 abbrev pub input_count : Option Paths → ℕ

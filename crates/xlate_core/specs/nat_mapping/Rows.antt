@@ -1,6 +1,6 @@
 -- Mapping rows (RFC 4787 4), as a list in order of making.
 use Rattle.std.specs.Prelude.{ℕ, zero, suc, ◌+◌, ◌-◌, ◌^◌, Bool, not, ◌&&◌, nat_lt, List, [], ◌∷◌, ◌++◌, length, map, filter, find, sum_by}
-use Rattle.std.specs.Prelude.{min, take, Option, option_map, if◌then◌else◌}
+use Rattle.std.specs.Prelude.{◌<◌, ◌≤◌, All, min, take, Option, option_map, if◌then◌else◌}
 use Rattle.std.specs.List.{list_any, position, position_or_len, range_with_len}
 use Rattle.aftr_base.specs.Value.{ip4_eq, place_eq, proto_eq, key_eq, subscriber_eq, is_within, place}
 use Rattle.aftr_base.specs.declared.value.Ip4.{Ip4}
@@ -90,3 +90,8 @@ live_peers now r = record r { peers = filter (λ (p : Peer). nat_lt now p.deadli
 
 abbrev pub expired : ℕ → List Row → List Row
 expired now rows = filter (λ (r : Row). nat_lt 0 (length r.peers)) (map (live_peers now) rows)
+
+-- a row has peers, none of which goes before this moment
+pub record LastsUntil (at : ℕ) (r : Row) : Type 0 where
+  pub some : 0 < length r.peers
+  pub each : All (λ (p : Peer). at ≤ p.deadline.0) r.peers

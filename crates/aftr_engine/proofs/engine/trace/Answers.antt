@@ -2,12 +2,13 @@ use Rattle.std.proofs.Common.{refl}
 use Rattle.aftr_engine.proofs.Endings.{answered, unanswered}
 use Rattle.aftr_engine.proofs.engine.trace.Goals as goal
 
-pub returns-in-Ok : goal.returns-in-Ok
-returns-in-Ok g c =
-    answered c.answered.result c.answered.ensures.status c.answered.ensures.answer c.answered.ensures.drops
-    (rw (c.name.ensures, c.as_slice.ensures) refl) c.in-Ok.ensures.told c.read_leases.ensures.same
+pub returns-in-Ok-clause-answered : goal.returns-in-Ok-clause-answered
+returns-in-Ok-clause-answered g c =
+    answered c.answered.result c.answered.ensures.status c.answered.ensures.drops
+    (rw (c.answered.ensures.answer, c.name.ensures) refl)
+    c.in-Ok.ensures.tells c.told_log.ensures.same
 
-pub returns-in-Err : goal.returns-in-Err
-returns-in-Err g c =
+pub returns-in-Err-clause-answered : goal.returns-in-Err-clause-answered
+returns-in-Err-clause-answered g c =
     unanswered c.early.result c.early.ensures.status c.early.ensures.drops c.in-Err.ensures.refused c.in-Err.ensures.reason
-    c.read_leases.ensures.same
+    c.told_log.ensures.same

@@ -1,4 +1,4 @@
-use Rattle.std.proofs.Common.{◌≡◌, ap, ◌∙◌, sym, true, false, List}
+use Rattle.std.proofs.Common.{◌≡◌, ap, ◌∙◌, sym, refl, true, false, List}
 use Rattle.std.specs.Prelude.{◌&&◌, nat_le, Ok, map}
 use Rattle.std.specs.List.{list_any}
 use Rattle.aftr_base.specs.Row.{is_in_use, plan_ended}
@@ -15,7 +15,7 @@ returns-then-not-may_end_plan c =
     let may = λ (plans : List PlanRow). list_any (λ (p : PlanRow). is_in_use p && nat_le p.since.0 at.0) plans in
     let no : may t.plans ≡ false = sym (c.may_end_plan.ensures ∙ ap may c.as_slice-in-None.ensures) ∙ c.if-not-may_end_plan.true in
     let ended : Told = record t { plans = map (plan_ended at.0) t.plans } in
-    ap (after_plan t at) c.in-None.is ∙ require-false (may t.plans) (Ok ended) no
+    record { told = ap (after_plan t at) c.in-None.is ∙ require-false (may t.plans) (Ok ended) no; leases = refl }
 
 pub returns-else-not-may_end_plan : goal.returns-else-not-may_end_plan
 returns-else-not-may_end_plan c =
@@ -25,4 +25,7 @@ returns-else-not-may_end_plan c =
     let yes : may t.plans ≡ true = sym (c.may_end_plan.ensures ∙ ap may c.as_slice-in-None.ensures) ∙ c.if-not-may_end_plan.false in
     let ended : Told = record t { plans = map (plan_ended at.0) t.plans } in
     let with_plans = λ (plans : List PlanRow). Ok record t { plans = plans } in
-    ap (after_plan t at) c.in-None.is ∙ require-true (may t.plans) (Ok ended) yes ∙ ap with_plans (sym c.end_plan.ensures)
+    record {
+      told = ap (after_plan t at) c.in-None.is ∙ require-true (may t.plans) (Ok ended) yes ∙ ap with_plans (sym c.end_plan.ensures);
+      leases = refl;
+    }

@@ -1,10 +1,9 @@
-use Rattle.std.proofs.Common.{◌≡◌, ap, sym, ◌∙◌, subst, List, ℕ, length, ◌+◌}
+use Rattle.std.proofs.Common.{ap, sym, ◌∙◌, subst, List, ℕ, length, ◌+◌}
 use Rattle.plant_io.specs.Story.{content}
 use Rattle.plant_io.specs.Stops.{StopsLeave}
 use Rattle.disk_journal.specs.Frames.{IsBody, message_of}
 use Rattle.disk_journal.specs.Commit.{CommitLeaves, IsCommitted, IsFullAt, OnDone}
 use Rattle.disk_journal.specs.Standing.{after_commit}
-use Rattle.lease_log.specs.Batch.{Batch, batch_body}
 use Rattle.lease_log.proofs.BatchLaws.{written, fits, short, batch_is_body}
 use Rattle.lease_log.proofs.AppendSteps.{stands, stops, appended}
 use Rattle.lease_log.proofs.batch.append.Goals as goal

@@ -1,6 +1,7 @@
-use Rattle.std.proofs.Common.{◌≡◌, ◌≤◌, ◌-◌, ◌^◌, false}
+use Rattle.std.proofs.Common.{◌≡◌, ◌≤◌, ◌-◌, ◌*◌, ◌^◌, false}
 use Rattle.plant_io.specs.Story.{content}
 use Rattle.aftr_base.specs.Told.{nothing_told}
+use Rattle.lease_log.specs.Answers.{number_of_rows}
 use Rattle.lease_log.specs.Log.{log_at}
 use Rattle.lease_log.specs.Sound.{IsSound}
 use Rattle.lease_log.proofs.reading.read_frames.Given as goal
@@ -13,7 +14,8 @@ invariant-frames g l = record {
   later : g.P.Plant.disk_faults l.fn.plant ≤ g.P.Plant.disk_faults l.plant;
   outlet : g.P.Plant.out_faults l.plant ≡ g.P.Plant.out_faults l.fn.plant;
   sound : IsSound l.told;
-  count : l.told.count ≤ l.journal.at;
+  count : 8 * l.told.count ≤ l.journal.at;
+  rows : number_of_rows l.told ≤ l.told.count;
   suspect : l.journal.suspect ≡ false;
 }
 

@@ -1,6 +1,5 @@
 use Rattle.std.proofs.Common.{ℕ, Result, Err, ap, sym, ◌∙◌, subst}
 use Rattle.plant_io.specs.Story.{content}
-use Rattle.disk_journal.specs.declared.position.start.AttachBad.{AttachBad}
 use Rattle.disk_journal.specs.declared.position.start.AttachBad.TheVariants.{Damaged}
 use Rattle.lease_log.specs.Log.{Log}
 use Rattle.lease_log.specs.Answers.{IsDamageOf}

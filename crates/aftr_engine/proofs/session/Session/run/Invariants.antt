@@ -1,7 +1,8 @@
-use Rattle.std.proofs.Common.{◌≤◌, ◌-◌, ◌++◌}
+use Rattle.std.proofs.Common.{◌≤◌, ◌-◌, ◌+◌, ◌++◌}
 use Rattle.plant_io.specs.Stops.{StopsLeave}
 use Rattle.plant_io.specs.Story.{content, sent, IsSettled}
-use Rattle.aftr_engine.specs.session.Begun.{config_of}
+use Rattle.lease_log.specs.Answers.{IsAtTail}
+use Rattle.aftr_engine.specs.session.Begun.{config_of, told_at}
 use Rattle.aftr_engine.specs.session.Stops.{AccountsFor}
 use Rattle.aftr_engine.specs.session.UnderWay.{IsUnderWay}
 use Rattle.aftr_engine.proofs.session.Session.run.Given as goal
@@ -9,17 +10,19 @@ use Rattle.aftr_engine.proofs.session.Session.run.Given as goal
 -- the records so far account for all that was done
 abbrev pub invariant-loop-event : goal.invariant-loop-event
 invariant-loop-event g l = record {
-  way : IsUnderWay (config_of l.fn.self) g.I.Source.tells g.P.Plant.tells (g.I.Source.rest l.fn.input) (sent (g.P.Plant.story l.fn.plant))
+  way : IsUnderWay (config_of l.fn.self) (told_at l.fn.self) (l.fn.self.journal.at + 1) g.I.Source.tells g.P.Plant.tells
+      (g.I.Source.rest l.fn.input) (sent (g.P.Plant.story l.fn.plant))
       (record {
         left = l.self.reader.held ++ g.I.Source.rest l.input;
         offset = l.self.reader.offset;
         sent = sent (g.P.Plant.story l.plant);
         log = content (g.P.Plant.story l.plant);
-        size = l.self.journal;
+        tail = l.self.journal.at + 1;
       }) l.self.core l.self.gate;
+  journal : IsAtTail l.self.journal;
   settled : g.P.Plant.tells → IsSettled (g.P.Plant.story l.plant);
   stops : g.I.Source.tells → g.P.Plant.tells → StopsLeave (g.P.Plant.story l.fn.plant) (g.P.Plant.story l.plant)
-      (AccountsFor (config_of l.fn.self) (g.I.Source.rest l.fn.input) (sent (g.P.Plant.story l.fn.plant)));
+      (AccountsFor (config_of l.fn.self) (told_at l.fn.self) (g.I.Source.rest l.fn.input) (sent (g.P.Plant.story l.fn.plant)));
   input_later : g.I.Source.faults l.fn.input ≤ g.I.Source.faults l.input;
   disk_later : g.P.Plant.disk_faults l.fn.plant ≤ g.P.Plant.disk_faults l.plant;
   outlet_later : g.P.Plant.out_faults l.fn.plant ≤ g.P.Plant.out_faults l.plant;

@@ -13,7 +13,8 @@ loop-row-preserved c =
     let part = take (length rows - from) (drop from rows) in
     let all = c.deref.ensures.value ∙ c.self.view_is in
     let within : from ≤ length rows = omega (arith, c.requires.within, ap (λ (rs : List Row). length rs) all) in
-    let same = take_all (length rows - from) (drop from rows) (omega (arith, length-drop from rows)) ∙ ap (λ (rs : List Row). drop from rs) all in
+    let same = take_all (length rows - from) (drop from rows) (omega (arith, length-drop from rows))
+    ∙ ap (λ (rs : List Row). drop from rs) all in
     let lt : i < length part = c.loop-row-test.true in
     record {
       rows = count_next (row_in c.args.owner) c.args.self.now part from i c.row-item.result c.loop-row.usage.rows

@@ -6,7 +6,8 @@ use Rattle.cfg_text.specs.Accepted.{is_accepted}
 use Rattle.xlate_core.specs.declared.nat_mapping.Row.{Row}
 use Rattle.xlate_core.specs.State.{State}
 use Rattle.xlate_core.specs.Expiry.{has_idle}
-use Rattle.xlate_core.proofs.IdleLeases.{either_way, known_opened, lease_used}
+use Rattle.xlate_core.proofs.Attempts.{either_way}
+use Rattle.xlate_core.proofs.IdleLeases.{known_opened, lease_used}
 use Rattle.xlate_core.proofs.translator.Core.keep.Goals as goal
 
 pub invariant_of-self : goal.invariant_of-self

@@ -6,7 +6,8 @@ use Rattle.xlate_core.specs.State.{State}
 use Rattle.xlate_core.specs.nat_mapping.Rows.{touched_at}
 use Rattle.xlate_core.specs.Grant.{peer_of, row_for}
 use Rattle.xlate_core.specs.contracts.translator.Core.{the_view}
-use Rattle.xlate_core.proofs.IdleLeases.{either_way, known_pushed, known_same, known_touched}
+use Rattle.xlate_core.proofs.Attempts.{either_way}
+use Rattle.xlate_core.proofs.IdleLeases.{known_pushed, known_same, known_touched}
 use Rattle.xlate_core.proofs.Positions.{kept_there, kept_anew, after_row_is}
 use Rattle.xlate_core.proofs.translator.Core.keep_row.Goals as goal
 

@@ -1,0 +1,9 @@
+pub mod ToldParts
+pub mod Ending
+pub mod Closed
+pub mod Naming
+pub mod FrameSteps
+pub mod Taking
+pub mod UnderWay
+pub mod RecoverStops
+pub mod Counting
