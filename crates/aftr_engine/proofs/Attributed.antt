@@ -1,15 +1,13 @@
 -- What a stop at any moment leaves answers for each packet that left whole.
-use Rattle.std.proofs.Common.{◌≡◌, inl, inr, ℕ, zero, suc, ◌+◌, ◌≤◌, ◌<◌, List, [], ◌∷◌, ◌++◌, length, filter, map, get_or, take, drop, All, Option, Some}
-use Rattle.std.proofs.Common.{Result, Ok, Err, IfSome, false, refl, sym, ap, ◌∙◌, subst, arith, length-append, length-take}
+use Rattle.std.proofs.Common.{◌≡◌, inl, inr, ℕ, ◌+◌, ◌≤◌, ◌<◌, List, [], ◌∷◌, ◌++◌, length, filter, map, get_or, take, drop, All, Some}
+use Rattle.std.proofs.Common.{false, refl, sym, ap, ◌∙◌, subst, arith}
 use Rattle.std.specs.Prelude.{slice_get}
 use Rattle.std.specs.List.{AllByRecursion}
 use Rattle.std.proofs.lemmas.Bool.{cond-false, false_from_ne_true}
-use Rattle.std.proofs.lemmas.List.{append-nil, get_or_append_left, map-append, take-append-drop}
+use Rattle.std.proofs.lemmas.List.{append-nil, map-append, take-append-drop}
 use Rattle.std.proofs.lemmas.List.Elements.{filter-append, recursion_from_All}
-use Rattle.std.proofs.lemmas.Option.{slice_get-get_or}
-use Rattle.plant_io.specs.Story.{Story, content, sent, IsImage}
+use Rattle.plant_io.specs.Story.{content, sent}
 use Rattle.plant_io.proofs.Images.{content_is_image}
-use Rattle.aftr_base.specs.Bytes.{be32, be64}
 use Rattle.aftr_base.specs.Row.{is_open}
 use Rattle.aftr_base.specs.Told.{end_of, lease_closed}
 use Rattle.aftr_base.specs.declared.told.Told.{Told}
@@ -17,9 +15,7 @@ use Rattle.aftr_base.specs.declared.event.Event.{Event}
 use Rattle.aftr_base.specs.declared.row.LeaseRow.{LeaseRow}
 use Rattle.aftr_base.specs.declared.value.Ip4.{Ip4}
 use Rattle.aftr_base.specs.declared.value.Subscriber.{Subscriber}
-use Rattle.aftr_base.proofs.Founds.{some_inj}
 use Rattle.cfg_text.specs.declared.config.Config.{Config}
-use Rattle.lease_log.specs.Log.{Log, log_of as log_in}
 use Rattle.xlate_core.specs.State.{State}
 use Rattle.xlate_core.specs.Run.{run, start, told_of}
 use Rattle.xlate_core.specs.Valid.{AreDisjoint, IsStart, KeepsTold}
@@ -31,66 +27,17 @@ use Rattle.recovery.specs.Closings.{recovered}
 use Rattle.recovery.specs.Laws.{EachClosingIsBelieved, EachClosingKeepsNames, RecoveredKeepsNames}
 use Rattle.trace_query.specs.Names.{names_of}
 use Rattle.trace_query.specs.Logs.{Holds, IsBelieved, NamesOne}
-use Rattle.aftr_engine.specs.link_records.Frames.{frames_of, number_of}
-use Rattle.aftr_engine.specs.egress_gate.Logged.{Tells}
-use Rattle.aftr_engine.specs.egress_gate.Output.{item_bytes, output}
-use Rattle.aftr_engine.specs.session.Attributed.{EachStopIsAnswered, IsWholeIn}
+use Rattle.link_records.specs.Frames.{frames_of}
+use Rattle.egress_gate.specs.Logged.{Tells}
+use Rattle.egress_gate.specs.Answered.{IsWholeIn}
+use Rattle.egress_gate.proofs.Naming.{same_told}
+use Rattle.egress_gate.proofs.WholeItems.{front_item, named_one, none_whole}
+use Rattle.aftr_engine.specs.session.Attributed.{EachStopIsAnswered}
 use Rattle.aftr_engine.specs.session.EndToEnd.{front_run, run_of, told_behind}
-use Rattle.aftr_engine.specs.session.Senders.{IsNamed, NamesEachSender, port_of, source_of}
+use Rattle.egress_gate.specs.Senders.{NamesEachSender, port_of, source_of}
 use Rattle.aftr_engine.specs.session.Stops.{IsAccounted}
 use Rattle.aftr_engine.proofs.Attribution.{names_front, valid_front}
-use Rattle.aftr_engine.proofs.NamesApart.{all_ended, disjoint_name_one, names_are_holders, one_name_disjoint, with_ends}
-
--- ---- a packet that left whole is one of those that the log accounts for
-
-some_record : (i : Item) → 1 ≤ length (item_bytes i)
-some_record i =
-    omega (arith, length-append (be32 (9 + length i.bytes)) (number_of i.side ∷ (be64 i.at.0 ++ i.bytes)))
-
-some_bytes : (i : Item) (items : List Item) → 1 ≤ length (output (i ∷ items))
-some_bytes i items = omega (arith, some_record i, length-append (item_bytes i) (output items))
-
-none_less : (n : ℕ) → 1 ≤ n → n ≤ 0 → ⊥
-none_less n some none = absurd (omega (arith, some, none))
-
-within_front : (front rest : List Item) (k : ℕ) → k < length (front ++ rest)
-    → length (output (take (suc k) (front ++ rest))) ≤ length (output front) → k < length front
-within_front [] [] k place le = absurd (omega (arith, place))
-within_front [] (i ∷ rest) k place le = absurd (none_less (length (output (i ∷ take k rest))) (some_bytes i (take k rest)) le)
-within_front (i ∷ front) rest zero place le = omega arith
-within_front (i ∷ front) rest (suc k) place le =
-    let longer : length (item_bytes i ++ output (take (suc k) (front ++ rest))) ≤ length (item_bytes i ++ output front) = le in
-    let shorter = within_front front rest k (omega (arith, place))
-    (omega (
-      arith,
-      longer,
-      length-append (item_bytes i) (output (take (suc k) (front ++ rest))),
-      length-append (item_bytes i) (output front),
-    )) in
-    omega (arith, shorter)
-
--- nothing left whole where nothing was sent
-none_whole : (past : List ℕ) (items : List Item) (k : ℕ) → IsWholeIn past past items k → ⊥
-none_whole past items k is = absurd (omega (arith, within_front [] items k is.place (omega (arith, is.size, is.whole))))
-
--- the item is one of the first, where a part of what these give was sent
-front_item : (past bytes : List ℕ) (front rest : List Item) (count k : ℕ) (i : Item) → bytes ≡ past ++ take count (output front)
-    → IsWholeIn past bytes (front ++ rest) k → slice_get (front ++ rest) k ≡ Some i → (k < length front) × (i ≡ get_or front k i)
-front_item past bytes front rest count k i is whole item =
-    let most : whole.more ≤ length (output front) =
-    omega (arith, whole.size, ap length is, length-append past (take count (output front)), length-take count (output front)) in
-    let place = within_front front rest k whole.place (omega (arith, whole.whole, most)) in
-    let here = some_inj i (get_or (front ++ rest) k i) (sym item ∙ slice_get-get_or (front ++ rest) k i whole.place) in
-    (place, here ∙ get_or_append_left front rest i k place)
-
--- ---- so it is named
-
-named_one : (told : Told) (i j : Item) (owner : Subscriber) → i ≡ j → IsNamed told j → i.owner ≡ Some owner
-    → (names_of told (source_of i) (port_of i) i.at.0 ≡ owner ∷ []) × (i.at.0 ≤ told.horizon.0)
-named_one told i j owner same named is =
-    subst (λ (o : Option Subscriber). IfSome o (λ (s : Subscriber).
-    (names_of told (source_of i) (port_of i) i.at.0 ≡ s ∷ []) × (i.at.0 ≤ told.horizon.0))) is
-    (subst (IsNamed told) (sym same) named)
+use Rattle.egress_gate.proofs.NamesApart.{all_ended, disjoint_name_one, names_are_holders, one_name_disjoint, with_ends}
 
 holds_sent : (c : Config) (told : Told) (n : ℕ) (input : List ℕ) {k : ℕ} {past file bytes : List ℕ} {i : Item} {owner : Subscriber}
     → NamesEachSender (told_behind told (front_run c told n input)) (front_run c told n input).items
@@ -157,14 +104,6 @@ names_kept t s count addr port at ended kept le =
 
 -- ---- all that a stop leaves
 
--- what the log tells that a file is
-abbrev told_in : Told → Result Log ℕ → Told
-told_in other (Ok log) = log.told
-told_in other (Err offset) = other
-
-same_told : (file : List ℕ) {log : Log} {told : Told} → log_in file ≡ Ok log → Tells file told → log.told ≡ told
-same_told file {log} {told} is tells = ap (told_in told) (sym is ∙ tells.1)
-
 one_kept : (t u : Told) → ((addr : Ip4) (port at : ℕ) → names_of u addr port at ≡ names_of t addr port at) → NamesOne t → NamesOne u
 one_kept t u same one = λ addr port at. omega (arith, one addr port at, ap length (same addr port at))
 
@@ -187,7 +126,8 @@ module _ (c : Config) (input : List ℕ) (was : Told) (one : NamesOne was) (begi
       → IsAccounted (recovered was) (front_run c (recovered was) n input) past file bytes
       → slice_get (run_of c (recovered was) input).items k ≡ Some i → i.owner ≡ Some owner
       → IsWholeIn past bytes (run_of c (recovered was) input).items k → Holds file (source_of i) (port_of i) i.at.0 (owner ∷ [])
-  sent_named n is item owned whole = holds_sent c (recovered was) n input (names_front c (recovered was) n input begins apart) is item owned whole
+  sent_named n is item owned whole =
+      holds_sent c (recovered was) n input (names_front c (recovered was) n input begins apart) is item owned whole
 
   still_named : (n : ℕ) {past file bytes : List ℕ} (addr : Ip4) (port at : ℕ) (names : List Subscriber)
       → IsAccounted (recovered was) (front_run c (recovered was) n input) past file bytes

@@ -1,5 +1,6 @@
 -- What a restart hands on is what a run may start from.
-use Rattle.std.proofs.Common.{◌≡◌, inr, ℕ, ◌+◌, ◌≤◌, max, Bool, true, false, not, ◌&&◌, List, [], ◌∷◌, nat_le, is_none, All, Option, Some, None, Result, Ok, refl, sym, ap, ◌∙◌, subst, arith}
+use Rattle.std.proofs.Common.{◌≡◌, inr, ℕ, ◌+◌, ◌≤◌, max, Bool, true, false, not, ◌&&◌, List, [], ◌∷◌, nat_le, is_none, Option, Some}
+use Rattle.std.proofs.Common.{None, Result, Ok, refl, sym, ap, ◌∙◌, subst, arith}
 use Rattle.std.specs.List.{AllByRecursion, list_all}
 use Rattle.std.proofs.lemmas.Bool.{and_from, le-leb}
 use Rattle.std.proofs.lemmas.List.Elements.{All-from_recursion, All-weaker, recursion_from_All}
@@ -23,7 +24,7 @@ use Rattle.xlate_core.specs.State.{State}
 use Rattle.xlate_core.specs.Run.{start, told_of}
 use Rattle.aftr_engine.specs.declared.session.Session.{Session}
 use Rattle.aftr_engine.specs.session.Begun.{HasBegun, config_of, told_at}
-use Rattle.aftr_engine.specs.declared.tally.Tally.{Tally}
+use Rattle.egress_gate.specs.declared.tally.Tally.{Tally}
 use Rattle.aftr_engine.specs.engine.Running.{KeepsRows}
 use Rattle.aftr_engine.specs.session.Stops.{AccountsFor}
 use Rattle.aftr_engine.proofs.Endings.{HasEnded, HasOpened}
@@ -58,7 +59,8 @@ end_in_time : (u : Option Moment) → EndsInTime u → end_or_none u ≤ log_mom
 end_in_time None end = omega arith
 end_in_time (Some m) end = end
 
-last_in_time : (horizon : ℕ) (leases : List LeaseRow) → AllByRecursion (IsSoundLease horizon) leases → last_lease_end leases ≤ log_moment_limit
+last_in_time : (horizon : ℕ) (leases : List LeaseRow) → AllByRecursion (IsSoundLease horizon) leases
+    → last_lease_end leases ≤ log_moment_limit
 last_in_time horizon [] all = omega arith
 last_in_time horizon (l ∷ leases) all = omega (arith, end_in_time l.until all.0.end, last_in_time horizon leases all.1)
 
@@ -71,7 +73,8 @@ plan_in_time horizon (p ∷ plans) all = omega (arith, end_in_time p.until all.0
 lasts_by : (since latest : ℕ) (u : Option Moment) → is_none u ≡ false → EndsSince since u → end_or_none u ≤ latest
     → (elim u [ None ↦ nat_le since 0 | Some until ↦ nat_le since until.0 && nat_le until.0 latest ]) ≡ true
 lasts_by since latest None ended order end = absurd (cc ended)
-lasts_by since latest (Some m) ended order end = and_from (nat_le since m.0) (nat_le m.0 latest) (le-leb since m.0 order) (le-leb m.0 latest end)
+lasts_by since latest (Some m) ended order end =
+    and_from (nat_le since m.0) (nat_le m.0 latest) (le-leb since m.0 order) (le-leb m.0 latest end)
 
 lease_by : (horizon latest : ℕ) (l : LeaseRow) → IsSoundLease horizon l → is_open l ≡ false → end_or_none l.until ≤ latest
     → is_lease_by 0 latest l ≡ true
@@ -143,7 +146,8 @@ module _ (told : Told) (sound : IsSound told) (ended : AreEnded told) where
       let plan_is = λ (p : PlanRow) (s : IsSoundPlan told.horizon.0 p).
       le-leb p.since.0 log_moment_limit (omega (arith, s.begun, sound.horizon)) in
       and_from (nat_le (end_of told) log_moment_limit && list_all lease_early told.leases) (list_all plan_early told.plans)
-      (and_from (nat_le (end_of told) log_moment_limit) (list_all lease_early told.leases) (le-leb (end_of told) log_moment_limit told_in_time)
+      (and_from (nat_le (end_of told) log_moment_limit) (list_all lease_early told.leases)
+      (le-leb (end_of told) log_moment_limit told_in_time)
       (passes lease_early told.leases
       (recursion_from_All (λ (l : LeaseRow). lease_early l ≡ true) told.leases
       (All-weaker (IsSoundLease told.horizon.0) (λ (l : LeaseRow). lease_early l ≡ true) lease_is told.leases sound.leases))))

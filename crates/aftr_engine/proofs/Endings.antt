@@ -14,22 +14,22 @@ use Rattle.cfg_text.specs.Accepted.{is_accepted}
 use Rattle.cfg_text.specs.Defaults.{defaults}
 use Rattle.cfg_text.specs.declared.config.Config.{Config}
 use Rattle.xlate_core.specs.Run.{Run}
-use Rattle.aftr_engine.specs.declared.tally.Tally.{Tally}
+use Rattle.egress_gate.specs.declared.tally.Tally.{Tally}
 use Rattle.aftr_engine.specs.declared.engine.Answer.{Answer}
 use Rattle.aftr_engine.specs.declared.engine.Answer.TheVariants.{Nothing, Summary}
 use Rattle.aftr_engine.specs.declared.engine.Ended.{Ended}
 use Rattle.aftr_engine.specs.declared.words.Command.{Command}
 use Rattle.aftr_engine.specs.declared.words.Command.TheVariants.{Init, Run as RunOf}
-use Rattle.aftr_engine.specs.link_records.Frames.{frames_of}
-use Rattle.aftr_engine.specs.egress_gate.Logged.{EndsAt, Tells}
-use Rattle.aftr_engine.specs.egress_gate.Output.{output}
+use Rattle.link_records.specs.Frames.{frames_of}
+use Rattle.egress_gate.specs.Logged.{EndsAt, Tells}
+use Rattle.egress_gate.specs.Output.{output}
 use Rattle.aftr_engine.specs.report.Lines.{fault_line, summary, told_text}
 use Rattle.aftr_engine.specs.session.EndToEnd.{output_of, front_run, run_of, summary_of, told_behind}
 use Rattle.aftr_engine.specs.session.Begun.{StopsFor, IsAtRecordsEnd, TalliesAs}
 use Rattle.aftr_engine.specs.session.Fronts.{HasCome, HasDoneFirst, HasTreatedFirst}
 use Rattle.aftr_engine.specs.engine.Texts.{IsListed, answer_text, text_of}
 use Rattle.aftr_engine.specs.engine.Reported.{IsKept, IsText, IsReported, IsNoCommand, PrintsFault}
-use Rattle.aftr_engine.specs.engine.Running.{BeginsFrom, KeepsRoom, LeavesRows, RefusesConfig, RefusesFor, IsWhole, RanAs, no_source}
+use Rattle.aftr_engine.specs.engine.Running.{BeginsFrom, LeavesRows, RefusesConfig, RefusesFor, IsWhole, RanAs, no_source}
 use Rattle.lease_log.specs.Log.{Log, log_of}
 use Rattle.recovery.specs.Closings.{recovered}
 use Rattle.aftr_engine.specs.engine.Asking.{AnswersFor, AnsweredAs, answer_to}
@@ -112,36 +112,33 @@ pub defaults_accepted : is_accepted defaults ≡ true
 defaults_accepted = refl
 
 whole_by : (c : Config) (from : Told) {input : SourceUse} {plant : PlantUse} {drops : List ℕ} (n : ℕ)
-    → (plant.tells → KeepsRoom c.log_limit (content plant.before) (content plant.after))
     → (input.tells → n ≡ length (frames_of input.bytes).events)
     → (input.tells → drops ≡ drop_counts (front_run c from n input.bytes).drops)
     → (input.tells → plant.tells → HasTreatedFirst c from n input.bytes (sent plant.before) plant.after)
     → IsWhole c from input plant drops
-whole_by c from {input} {plant} n room all counts done =
+whole_by c from {input} {plant} n all counts done =
     let run_is = λ (reads : input.tells). whole_front c from input.bytes n (all reads) in
     record {
       packets = λ reads tells.
           (done reads tells).packets ∙ ap (λ (r : Run). sent plant.before ++ output r.items) (run_is reads);
       told = λ reads tells.
           subst (λ (r : Run). Tells (content plant.after) (told_behind from r)) (run_is reads) (done reads tells).tells;
-      room = room;
       counts = λ reads. counts reads ∙ ap (λ (r : Run). drop_counts r.drops) (run_is reads);
     }
 
 whole : {c : Config} {from : Told} {input : SourceUse} {plant : PlantUse} {drops : List ℕ} (status : Status)
-    → (IsAtRecordsEnd status → plant.tells → KeepsRoom c.log_limit (content plant.before) (content plant.after))
     → HasCome c from input plant drops status → IsAtRecordsEnd status → IsWhole c from input plant drops
-whole {c} {from} Ok room came end = whole_by c from came.treated (room tt) came.records came.counts came.done
-whole {c} {from} (BadInput place offset) room came end = whole_by c from came.treated (room tt) came.records came.counts came.done
-whole BadWords room came end = absurd end
-whole (BadConfig key) room came end = absurd end
-whole ReadFault room came end = absurd end
-whole LogFault room came end = absurd end
-whole OutFault room came end = absurd end
-whole (LogDamaged offset) room came end = absurd end
-whole (LogFull tail need limit) room came end = absurd end
-whole (AlreadyThere size) room came end = absurd end
-whole NoMemory room came end = absurd end
+whole {c} {from} Ok came end = whole_by c from came.treated came.records came.counts came.done
+whole {c} {from} (BadInput place offset) came end = whole_by c from came.treated came.records came.counts came.done
+whole BadWords came end = absurd end
+whole (BadConfig key) came end = absurd end
+whole ReadFault came end = absurd end
+whole LogFault came end = absurd end
+whole OutFault came end = absurd end
+whole (LogDamaged offset) came end = absurd end
+whole (LogFull tail need limit) came end = absurd end
+whole (AlreadyThere size) came end = absurd end
+whole NoMemory came end = absurd end
 
 summary_is : (c : Config) (from : Told) (input : List ℕ) (t : Tally) → TalliesAs c from input t
     → summary t.records t.sent t.drops.0 ≡ summary_of c from input
@@ -176,10 +173,11 @@ stops_earlier c input plant story (AlreadyThere size) later same why = why
 stops_earlier c input plant story NoMemory later same why = tt
 
 -- what a run has done since its log was opened, to this tail, from what it told
-pub record HasEnded (c : Config) (from : Told) (opened : ℕ) (input : SourceUse) (plant : PlantUse) (t : Tally) (status : Status) : Type 0 where
+pub record HasEnded (c : Config) (from : Told) (opened : ℕ) (input : SourceUse) (plant : PlantUse) (t : Tally)
+    (status : Status) : Type 0 where
   pub reason : StopsFor c input plant status
   pub came : HasCome c from input plant t.drops.0 status
-  pub room : (now : Told) (tail : ℕ) → plant.tells → IsAtRecordsEnd status → EndsAt (content plant.after) now tail
+  pub room : (now : Told) (tail : ℕ) → plant.tells → status ≢ LogFault → EndsAt (content plant.after) now tail
       → tail ≤ max opened c.log_limit
   pub counts : input.tells → IsAtRecordsEnd status → TalliesAs c from input.bytes t
   pub part : input.tells → plant.tells → GainsPart (output_of c from input.bytes) (sent plant.before) (sent plant.after)
@@ -215,11 +213,12 @@ ran {c} {from} {opened} {input} {plant} story {disk} {outlet} t {status} opening
         from = from;
         onto = λ tells. (opening tells).onto;
         reason = stops_earlier c input plant story status later none ended.reason;
-        whole = whole status (λ end tells was now before after.
-            omega (arith, ended.room now.told now.tail tells end after, (opening tells).room was before)) come;
+        whole = whole status come;
         came = come;
         part = λ reads tells. subst (λ (past : List ℕ). GainsPart (output_of c from input.bytes) past (sent plant.after))
             (opening tells).unsent (ended.part reads tells);
+        room = λ tells kept was now before after.
+            omega (arith, ended.room now.told now.tail tells kept after, (opening tells).room was before);
         settled = ended.settled;
       });
       says = text_is t Summary status (λ good.
@@ -270,6 +269,7 @@ unset {config = config} {plant = plant} {status = status} none is = record {
       whole = r.whole;
       came = r.came;
       part = r.part;
+      room = r.room;
       settled = r.settled;
     })
   ];

@@ -8,8 +8,8 @@ use Rattle.aftr_base.specs.declared.event.Event.{Event}
 use Rattle.aftr_base.specs.declared.event.EventKind.{EventKind}
 use Rattle.aftr_base.specs.Limits.{moment_limit}
 use Rattle.xlate_core.proofs.ValidStates.{AreBy}
-use Rattle.aftr_engine.specs.link_records.Frames.{Input, event_at, event_in, frame_len, frames_of, is_frame, kind_of, records_from}
-use Rattle.aftr_engine.specs.link_records.Frames.{stop_at, with_event}
+use Rattle.link_records.specs.Frames.{Input, event_at, event_in, frame_len, frames_of, is_frame, kind_of, records_from}
+use Rattle.link_records.specs.Frames.{stop_at, with_event}
 
 -- a moment that a record may bear
 abbrev InTime : Event → Type 0

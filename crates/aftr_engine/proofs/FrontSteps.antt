@@ -1,5 +1,6 @@
 -- How far a run under way has come, where it ends.
-use Rattle.std.proofs.Common.{◌≡◌, ◌<◌, ℕ, zero, suc, ◌+◌, ◌-◌, List, [], ◌∷◌, ◌++◌, length, take, refl, sym, ap, ◌∙◌, subst, arith, append_assoc}
+use Rattle.std.proofs.Common.{◌≡◌, ◌<◌, ℕ, zero, suc, ◌+◌, ◌-◌, List, [], ◌∷◌, ◌++◌, length, take, refl, sym, ap, ◌∙◌, subst, arith}
+use Rattle.std.proofs.Common.{append_assoc}
 use Rattle.std.proofs.Common.{length-append, length-take}
 use Rattle.std.specs.Prelude.{None, Some, slice_get}
 use Rattle.std.proofs.lemmas.List.{append-nil, take_at}
@@ -13,17 +14,17 @@ use Rattle.cfg_text.specs.declared.config.Config.{Config}
 use Rattle.xlate_core.specs.State.{State}
 use Rattle.xlate_core.specs.Step.{step}
 use Rattle.xlate_core.specs.Run.{Run, run, start}
-use Rattle.aftr_engine.specs.declared.link_records.Next.TheVariants.{Got, Failed}
-use Rattle.aftr_engine.specs.link_records.Frames.{Input, event_at, frames_of}
-use Rattle.aftr_engine.specs.link_records.Reader.{Reads}
-use Rattle.aftr_engine.specs.egress_gate.Counting.{Passed}
-use Rattle.aftr_engine.specs.egress_gate.Logged.{EndsAt, Tells, body_for, told_next}
-use Rattle.aftr_engine.specs.egress_gate.Output.{output}
+use Rattle.link_records.specs.declared.Next.TheVariants.{Got, Failed}
+use Rattle.link_records.specs.Frames.{Input, event_at, frames_of}
+use Rattle.link_records.specs.Reader.{Reads}
+use Rattle.egress_gate.specs.Held.{Gated, body_for}
+use Rattle.egress_gate.specs.Logged.{EndsAt, Tells, told_next}
+use Rattle.egress_gate.specs.Output.{output}
 use Rattle.aftr_engine.specs.session.EndToEnd.{front_run, told_behind}
 use Rattle.aftr_engine.specs.session.Fronts.{taken_of, HasSentFirst, HasTreatedFirst, IsFull, IsSendingNext}
 use Rattle.aftr_engine.specs.session.Progress.{HasRead, with_events}
 use Rattle.aftr_engine.specs.session.UnderWay.{IsUnderWay}
-use Rattle.aftr_engine.proofs.FrameSteps.{no_record}
+use Rattle.link_records.proofs.FrameSteps.{no_record}
 use Rattle.aftr_engine.proofs.RunSteps.{read_on, front_is, front_seen, front_next, output_on, told_on}
 
 -- the bytes that were taken, where the last of them hold no whole record: their records are those that were seen
@@ -64,7 +65,7 @@ next_seen events seen e next =
     get_take (x ∷ xs) (suc n) (suc k) lt = get_take xs n k (omega (arith, lt))
 
 module _ (now : Story) {c : Config} {told : Told} {began : ℕ} {I P : Type 0} {input past left : List ℕ} {offset tail : ℕ} {s : State}
-    {p : Passed}
+    {p : Gated}
     (way : IsUnderWay c told began I P input past
     (record { left = left; offset = offset; sent = sent now; log = content now; tail = tail }) s p) where
   -- the drops of the records so far
@@ -103,7 +104,8 @@ module _ (now : Story) {c : Config} {told : Told} {began : ℕ} {I P : Type 0} {
       let front = front_is c told (way.read reads) in
       record {
         treated = way_treated reads tells;
-        ends = subst (EndsAt (content now) (told_behind told (front_run c told (length way.seen) input))) (sym at_tail) (way_ends reads tells);
+        ends = subst (EndsAt (content now) (told_behind told (front_run c told (length way.seen) input))) (sym at_tail)
+            (way_ends reads tells);
         next = e;
         place = next_seen (frames_of input).events way.seen e (seen_next reads got);
         need = same

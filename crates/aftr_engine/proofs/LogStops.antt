@@ -9,8 +9,8 @@ use Rattle.cfg_text.specs.declared.config.Config.{Config}
 use Rattle.recovery.specs.Closings.{recovered}
 use Rattle.recovery.specs.Leaves.{RecoverLeaves}
 use Rattle.xlate_core.specs.Valid.{IsStart}
-use Rattle.aftr_engine.specs.egress_gate.Logged.{Tells}
-use Rattle.aftr_engine.specs.session.Stops.{AccountsFor, AccountsSince, LeavesLog}
+use Rattle.egress_gate.specs.Logged.{Tells}
+use Rattle.aftr_engine.specs.session.Stops.{AccountsFor, LeavesLog}
 
 -- while rows are closed, a stop leaves what it may leave then
 pub closes : (c : Config) (input : List ℕ) (first middle : Story) → StopsLeave first middle (RecoverLeaves first)

@@ -17,19 +17,20 @@ use Rattle.xlate_core.specs.Step.{step, log_of}
 use Rattle.xlate_core.specs.Run.{run, start, told_of}
 use Rattle.xlate_core.proofs.Runs.{run_push, run_append, short_run}
 use Rattle.xlate_core.proofs.ValidStates.{run_config}
-use Rattle.aftr_engine.specs.declared.link_records.Next.TheVariants.{Got}
-use Rattle.aftr_engine.specs.declared.tally.Tally.{Tally}
-use Rattle.aftr_engine.specs.link_records.Frames.{Input, Stop, AtEnd, BadAt, stop_at, frames_of, frames_from, frame_len, event_at}
-use Rattle.aftr_engine.specs.link_records.Frames.{input_limit, with_event}
-use Rattle.aftr_engine.specs.link_records.Reader.{Reads}
-use Rattle.aftr_engine.specs.egress_gate.Counting.{HasCounted, AreFew, IsZero, Passed}
-use Rattle.aftr_engine.specs.egress_gate.Logged.{EndsAt, told_next}
-use Rattle.aftr_engine.specs.egress_gate.Output.{output, item_bytes}
+use Rattle.link_records.specs.declared.Next.TheVariants.{Got}
+use Rattle.egress_gate.specs.declared.tally.Tally.{Tally}
+use Rattle.link_records.specs.Frames.{Input, Stop, AtEnd, BadAt, stop_at, frames_of, frames_from, frame_len, event_at}
+use Rattle.link_records.specs.Frames.{input_limit, with_event}
+use Rattle.link_records.specs.Reader.{Reads}
+use Rattle.egress_gate.specs.Counting.{HasCounted, AreFew, IsZero}
+use Rattle.egress_gate.specs.Held.{Gated, held_of}
+use Rattle.egress_gate.specs.Logged.{EndsAt, told_next}
+use Rattle.egress_gate.specs.Output.{output, item_bytes}
 use Rattle.aftr_engine.specs.session.EndToEnd.{run_of, output_of, front_run, told_behind}
 use Rattle.aftr_engine.specs.session.Progress.{TalliesRun, HasRead, with_events}
 use Rattle.aftr_engine.specs.session.UnderWay.{Standing, IsUnderWay}
-use Rattle.aftr_engine.proofs.FrameSteps.{no_record, record_alone}
-use Rattle.aftr_engine.proofs.Sending.{gained_all}
+use Rattle.link_records.proofs.FrameSteps.{no_record, record_alone}
+use Rattle.egress_gate.proofs.Sending.{gained_all}
 use Rattle.aftr_engine.proofs.Writes.{part_of_first, part_of_second}
 
 -- ---- what one record more sends and logs
@@ -100,12 +101,12 @@ front_next c told {input} {seen = seen} {e = e} read got =
 -- ---- at the start
 
 -- a run of no records comes to what the log told
-pub record HasStarted (c : Config) (told : Told) (s : State) (p : Passed) : Type 0 where
+pub record HasStarted (c : Config) (told : Told) (s : State) (p : Gated) : Type 0 where
   pub state : s ≡ start c told
   pub count : p.count ≡ told.count
   pub counts : IsZero p.tally
 
-pub begun : {c : Config} {told : Told} {I P : Type 0} {input past : List ℕ} {w : Standing} {s : State} {p : Passed}
+pub begun : {c : Config} {told : Told} {I P : Type 0} {input past : List ℕ} {w : Standing} {s : State} {p : Gated}
     → w.left ≡ input → w.offset ≡ 0 → HasStarted c told s p → told_behind told (run (start c told) []) ≡ told
     → (P → w.sent ≡ past) → (P → EndsAt w.log told w.tail)
     → IsUnderWay c told w.tail I P input past w s p
@@ -128,22 +129,23 @@ begun {c} {told} {past = past} {w = w} all first here none same tells = record {
 -- ---- one record more
 
 -- one more record was read and passed the gate
-pub record HasPassed (I P : Type 0) (limit : ℕ) (w w' : Standing) (s s' : State) (p p' : Passed) (e : Event) : Type 0 where
+pub record HasPassed (I P : Type 0) (limit : ℕ) (w w' : Standing) (s s' : State) (p p' : Gated) (e : Event) : Type 0 where
   pub read : I → Reads w.offset w.left w'.offset w'.left (Got e)
   pub early : e.at.0 ≤ moment_limit
   pub far : w.offset + 13 ≤ w'.offset
   pub within : w'.offset ≤ input_limit
   pub state : s' ≡ (step s e).state
-  pub counts : HasCounted (step s e) p.tally p'.tally
+  pub counts : HasCounted (held_of p.count (step s e)) p.tally p'.tally
   pub logged : p'.count ≡ p.count + length (log_of (step s e))
   pub sent : P → w'.sent ≡ w.sent ++ output (step s e).items
   pub tells : P → EndsAt w'.log (told_next p.count (step s e)) w'.tail
   pub room : w'.tail ≤ max w.tail limit
 
-tallied_on : (c : Config) (told : Told) (seen : List Event) (e : Event) {s : State} {t t' : Tally} → s ≡ (run (start c told) seen).state
-    → TalliesRun (run (start c told) seen) (length seen) t → HasCounted (step s e) t t'
+tallied_on : (c : Config) (told : Told) (seen : List Event) (e : Event) {count : ℕ} {s : State} {t t' : Tally}
+    → s ≡ (run (start c told) seen).state
+    → TalliesRun (run (start c told) seen) (length seen) t → HasCounted (held_of count (step s e)) t t'
     → TalliesRun (run (start c told) (seen ++ e ∷ [])) (length (seen ++ e ∷ [])) t'
-tallied_on c told seen e {s} {t} {t'} here before more =
+tallied_on c told seen e {count} {s} {t} {t'} here before more =
     let past = run (start c told) seen in
     let next = run_push (start c told) seen e in
     let same : step s e ≡ step past.state e = ap (λ (x : State). step x e) here in
@@ -165,7 +167,7 @@ logged_length c told seen e {s} here =
     ap length (run_push (start c told) seen e).log ∙ length-append before.log (log_of (step before.state e))
     ∙ ap (λ (x : State). length before.log + length (log_of (step x e))) (sym here)
 
-module _ {c : Config} {told : Told} {began : ℕ} {I P : Type 0} {input past : List ℕ} {w : Standing} {s : State} {p : Passed}
+module _ {c : Config} {told : Told} {began : ℕ} {I P : Type 0} {input past : List ℕ} {w : Standing} {s : State} {p : Gated}
     (way : IsUnderWay c told began I P input past w s p) where
   -- what the log tells
   pub told_now : told_of s p.count ≡ told_behind told (run (start c told) way.seen)
@@ -176,7 +178,7 @@ module _ {c : Config} {told : Told} {began : ℕ} {I P : Type 0} {input past : L
   told_on e =
       logged_on c told way.seen e way.reaches ∙ ap (λ (n : ℕ). told_next n (step s e)) (sym way.logged)
 
-  pub onward : {w' : Standing} {s' : State} {p' : Passed} {e : Event} → HasPassed I P c.log_limit w w' s s' p p' e
+  pub onward : {w' : Standing} {s' : State} {p' : Gated} {e : Event} → HasPassed I P c.log_limit w w' s s' p p' e
       → IsUnderWay c told began I P input past w' s' p'
   onward {w'} {s'} {p'} {e} passed =
       let longer = length-append way.seen (e ∷ []) in
@@ -278,5 +280,6 @@ at_bad left offset none some =
     no_record offset left none ∙ ap (λ (s : Stop). let i : Input = record { events = []; stop = s } in i) (bad_stop left offset some)
 
 -- the run over as many records as there are
-pub whole_front : (c : Config) (told : Told) (input : List ℕ) (n : ℕ) → n ≡ length (frames_of input).events → front_run c told n input ≡ run_of c told input
+pub whole_front : (c : Config) (told : Told) (input : List ℕ) (n : ℕ) → n ≡ length (frames_of input).events
+    → front_run c told n input ≡ run_of c told input
 whole_front c told input n all = ap (run (start c told)) (take_all n (frames_of input).events (omega (arith, all)))

@@ -12,17 +12,17 @@ use Rattle.cfg_text.specs.declared.config.Config.{Config}
 use Rattle.xlate_core.specs.State.{State}
 use Rattle.xlate_core.specs.Step.{step}
 use Rattle.xlate_core.specs.Run.{Run, run, start, told_of}
-use Rattle.aftr_engine.specs.declared.link_records.Next.TheVariants.{Got}
-use Rattle.aftr_engine.specs.link_records.Reader.{Reads}
-use Rattle.aftr_engine.specs.egress_gate.Counting.{Passed}
-use Rattle.aftr_engine.specs.egress_gate.Logged.{LogsFirst, Tells, told_next}
-use Rattle.aftr_engine.specs.egress_gate.Output.{output}
+use Rattle.link_records.specs.declared.Next.TheVariants.{Got}
+use Rattle.link_records.specs.Reader.{Reads}
+use Rattle.egress_gate.specs.Held.{Gated}
+use Rattle.egress_gate.specs.Logged.{LogsFirst, Tells, told_next}
+use Rattle.egress_gate.specs.Output.{output}
 use Rattle.aftr_engine.specs.session.EndToEnd.{told_behind}
 use Rattle.aftr_engine.specs.session.Stops.{IsAccounted, AccountsFor}
 use Rattle.aftr_engine.specs.session.UnderWay.{IsUnderWay, Standing}
 use Rattle.aftr_engine.proofs.RunSteps.{front_is, front_next, output_on, told_now, told_on}
 
-module _ {c : Config} {told : Told} {began : ℕ} {I P : Type 0} {input past : List ℕ} {w : Standing} {s : State} {p : Passed}
+module _ {c : Config} {told : Told} {began : ℕ} {I P : Type 0} {input past : List ℕ} {w : Standing} {s : State} {p : Gated}
     (way : IsUnderWay c told began I P input past w s p) where
   -- what a stop leaves while the log tells what it told
   kept : {image bytes : List ℕ} → P → bytes ≡ w.sent → Tells image (told_of s p.count)
@@ -52,7 +52,7 @@ module _ {c : Config} {told : Told} {began : ℕ} {I P : Type 0} {input past : L
         tells = subst (Tells image) (sym (told_on way e)) is;
       }
 
-module _ {c : Config} {told : Told} {began : ℕ} {I P : Type 0} {input left : List ℕ} {offset tail : ℕ} {s : State} {p : Passed}
+module _ {c : Config} {told : Told} {began : ℕ} {I P : Type 0} {input left : List ℕ} {offset tail : ℕ} {s : State} {p : Gated}
     (first middle last : Story)
     (way : IsUnderWay c told began I P input (sent first)
     (record { left = left; offset = offset; sent = sent middle; log = content middle; tail = tail }) s p) where

@@ -15,7 +15,7 @@ use Rattle.cfg_text.specs.Defaults.{defaults}
 use Rattle.wire_ip6.specs.Chain.{chain_within}
 use Rattle.xlate_core.specs.Run.{Run, run, start}
 use Rattle.xlate_core.specs.declared.step_out.Item.{Item}
-use Rattle.aftr_engine.specs.link_records.Frames.{BadAt, frames_of, record_bytes}
+use Rattle.link_records.specs.Frames.{BadAt, frames_of, record_bytes}
 use Rattle.aftr_engine.specs.session.EndToEnd.{told_behind}
 use Rattle.trace_query.specs.Names.{names_of}
 

@@ -1,6 +1,5 @@
 pub mod EndToEnd
 pub mod Stops
-pub mod Senders
 pub mod Attributed
 pub mod Fronts
 pub mod Progress

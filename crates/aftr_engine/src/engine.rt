@@ -1,5 +1,5 @@
 //! The program's one call, over any objects of the outside.
-ghost use Rattle.std.specs.Prelude.{◌≡◌, ◌≢◌, ◌≤◌, ◌+◌, true, [], List, ℕ, length, IfOk, IfErr, IsTrue, OnOk, Some, None, ◌↔◌};
+ghost use Rattle.std.specs.Prelude.{◌≡◌, ◌≢◌, ◌≤◌, true, [], List, ℕ, length, IfOk, IfErr, OnOk, Some, None};
 ghost use Rattle.plant_io.specs.Stops.{StopsLeave};
 ghost use Rattle.plant_io.specs.Story.{content, sent, IsImage, IsSettled};
 ghost use Rattle.disk_journal.specs.Attach.{AttachLeaves};
@@ -12,14 +12,15 @@ ghost use Rattle.aftr_base.specs.declared.told.Told.{Told};
 ghost use Rattle.aftr_engine.specs.declared.words.Command.{Command};
 ghost use Rattle.aftr_engine.specs.declared.words.Command.TheVariants.{Init, Run, Trace, Leases};
 ghost use Rattle.aftr_engine.specs.words.Words.{command_for, paths_for, input_count};
-ghost use Rattle.aftr_engine.specs.egress_gate.Logged.{Tells};
+ghost use Rattle.egress_gate.specs.Logged.{Tells};
 ghost use Rattle.recovery.specs.Answers.{HasRecovered, IsReady};
 ghost use Rattle.recovery.specs.Closings.{recovered};
 ghost use Rattle.recovery.specs.Leaves.{RecoverLeaves};
 ghost use Rattle.trace_query.specs.Logs.{AreBelieved};
 ghost use Rattle.trace_query.specs.Names.{name_of};
 ghost use Rattle.aftr_engine.specs.session.Attributed.{AnswersForEachPacket, EachStopIsAnswered};
-ghost use Rattle.aftr_engine.specs.session.Senders.{CanBegin, NamesEachSender};
+ghost use Rattle.egress_gate.specs.Senders.{NamesEachSender};
+ghost use Rattle.aftr_engine.specs.session.Begun.{CanBegin};
 ghost use Rattle.aftr_engine.specs.report.Lines.{trace_line, told_text};
 ghost use Rattle.plant_io.specs.Uses.{Writes, source_use, plant_use, sink_use};
 ghost use Rattle.aftr_engine.specs.session.EndToEnd.{front_run, run_of, told_behind};
@@ -27,16 +28,16 @@ ghost use Rattle.aftr_engine.specs.session.Stops.{LeavesLog};
 ghost use Rattle.aftr_engine.specs.engine.Reported.{IsKept, IsNoCommand, IsPrinted, IsReported, PrintsFault};
 ghost use Rattle.aftr_engine.specs.engine.Running.{LeavesRows, RanAs, RefusesConfig, RefusesLog, at_first, first_use, no_source};
 ghost use Rattle.aftr_engine.specs.engine.Asking.{AnsweredAs, AnswersFor, answer_to};
-ghost use Rattle.aftr_engine.specs.engine.Making.{MadeAs, MakesFor};
+ghost use Rattle.aftr_engine.specs.engine.Making.{MadeAs};
 ghost use Rattle.aftr_engine.specs.engine.Texts.{IsBadText, IsListed, answer_text, text_of};
 
 use crate::report::{Listing, write_fault, write_summary, write_told, write_trace};
 use crate::session::Session;
-use crate::tally::Tally;
 use crate::words::{Command, command_of};
 use aftr_base::{Ip4, Key, List, Moment, NoMemory, Outcome, Status, Told, Word};
 use cfg_text::Config;
 use disk_journal::{MakeBad, make};
+use egress_gate::Tally;
 use lease_log::{ToldBad, read_told};
 use plant_io::{Failed, Plant, Sink, Source};
 use recovery::{Ready, RecoverBad, closings_keep_names, recover};
@@ -131,8 +132,9 @@ pub fn aftr<C: Source, I: Source, P: Plant, R: Sink>(
 /// whose open rows it closes first, behind what the outlet has, and its answer goes to `report`.
 ///
 /// It is for accepted configurations without a plan. `LogDamaged` comes where the log isn't sound, `LogFull` where it has no room for
-/// the closings or for what a record logs, up to the configuration's limit, and `BadInput` with the offset at which no record stands, after those before it were treated. `ReadFault`, `LogFault` and `OutFault` come where a read,
-/// the log, or the outlet or the report failed, and `NoMemory` where memory ran out.
+/// the closings or for what a record logs, up to the configuration's limit, and `BadInput` with the offset at which no record
+/// stands, after those before it were treated. `ReadFault`, `LogFault` and `OutFault` come where a read, the log, or the outlet or
+/// the report failed, and `NoMemory` where memory ran out.
 pub fn run_config<I: Source, P: Plant, R: Sink>(
     alloc: Global,
     config: Config,

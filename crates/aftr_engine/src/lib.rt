@@ -1,12 +1,9 @@
 //! The program's one call: words, a configuration, inputs, a log with an outlet, and a report.
 #![tactic(auto)]
 
-mod egress_gate;
 mod engine;
-mod link_records;
 mod report;
 mod session;
-mod tally;
 mod words;
 
 pub use engine::{aftr, run_config};

@@ -2,14 +2,15 @@
 //! fault. It takes no memory.
 ghost use Rattle.std.specs.Prelude.{◌≡◌, ◌≤◌, ◌+◌, ◌*◌, ◌<◌, ◌%◌, ◌++◌, ◌∷◌, [], length, map, decimal, codes, IfOk, OnOk};
 ghost use Rattle.plant_io.specs.Uses.{Writes, sink_use};
-ghost use Rattle.aftr_base.specs.Drops.{name_of};
-ghost use Rattle.aftr_engine.specs.report.Lines.{line, drop_line, drop_lines, summary, fault_line, ip4_text, hex_digit, group, groups, prefix_text, trace_line, until_text, lease_line, lease_lines, plan_line, plan_lines, horizon_line, told_text};
+ghost use Rattle.aftr_engine.specs.report.Lines.{line, drop_line, drop_lines, summary, fault_line, ip4_text, hex_digit, group, groups};
+ghost use Rattle.aftr_engine.specs.report.Lines.{prefix_text, trace_line, until_text, lease_line, lease_lines, plan_line, plan_lines};
+ghost use Rattle.aftr_engine.specs.report.Lines.{horizon_line, told_text};
 
-use crate::tally::Tally;
 use aftr_base::{
     DropCause, Ip4, Key, LeaseRow, List, Moment, NoMemory, PlanRow, Status, Subscriber, Told,
 };
 use arrayvec::ArrayString;
+use egress_gate::Tally;
 use itoa::Buffer;
 use nat_events::plan_text;
 use plant_io::{Failed, Sink};

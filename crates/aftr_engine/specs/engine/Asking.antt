@@ -11,7 +11,7 @@ use Rattle.aftr_engine.specs.declared.words.Command.{Command}
 use Rattle.aftr_engine.specs.declared.words.Command.TheVariants.{Init, Run, Trace, Leases}
 use Rattle.trace_query.specs.Names.{name_of}
 use Rattle.aftr_engine.specs.report.Lines.{trace_line, told_text}
-use Rattle.aftr_engine.specs.egress_gate.Logged.{Tells}
+use Rattle.egress_gate.specs.Logged.{Tells}
 use Rattle.aftr_engine.specs.engine.Reported.{IsText, IsKept}
 
 -- what a query answers by what a log tells; the other commands are none

@@ -10,7 +10,7 @@ use Rattle.aftr_base.specs.declared.outcome.Status.TheVariants.{BadConfig, ReadF
 use Rattle.cfg_text.specs.declared.config.Config.{Config}
 use Rattle.lease_log.specs.Log.{Log, log_of}
 use Rattle.aftr_engine.specs.report.Lines.{summary}
-use Rattle.aftr_engine.specs.egress_gate.Logged.{Tells}
+use Rattle.egress_gate.specs.Logged.{Tells}
 use Rattle.aftr_engine.specs.session.EndToEnd.{run_of, output_of, counts_of, summary_of, told_behind}
 use Rattle.plant_io.specs.Uses.{HasRisen, SourceUse, PlantUse}
 use Rattle.aftr_engine.specs.session.Begun.{StopsFor, IsAtRecordsEnd}
@@ -96,11 +96,10 @@ KeepsRoom limit before after =
     (was now : Log) → log_of before ≡ Ok was → log_of after ≡ Ok now → now.tail ≤ max was.tail limit
 
 -- All records were treated: what was sent and dropped is what the translator's run over them sends and drops, and the log tells
--- that run's rows and horizon, in no more room than it had or than the configuration lets it have.
+-- that run's rows and horizon.
 pub record IsWhole (c : Config) (from : Told) (input : SourceUse) (plant : PlantUse) (drops : List ℕ) : Type 0 where
   pub packets : input.tells → plant.tells → sent plant.after ≡ sent plant.before ++ output_of c from input.bytes
   pub told : input.tells → plant.tells → Tells (content plant.after) (told_behind from (run_of c from input.bytes))
-  pub room : plant.tells → KeepsRoom c.log_limit (content plant.before) (content plant.after)
   pub counts : input.tells → drops ≡ counts_of c from input.bytes
 
 -- this is what the file told, with all rows closed
@@ -110,7 +109,8 @@ pub record BeginsFrom (file : List ℕ) (from : Told) : Type 0 where
   pub closed : from ≡ recovered was
 
 -- A run with no configuration bytes, from what its log told with all rows closed. Wherever it ended, its packets are a part of the
--- output, from its start; and the log is settled, unless it failed.
+-- output, from its start; and unless the log failed, it is settled, and has no more bytes that count than it had, or than the
+-- configuration lets it have.
 pub record HasRun (c : Config) (config input : SourceUse) (plant : PlantUse) (drops : List ℕ) (status : Status) : Type 0 where
   pub unset : config.tells → config.bytes ≡ []
   pub from : Told
@@ -119,6 +119,7 @@ pub record HasRun (c : Config) (config input : SourceUse) (plant : PlantUse) (dr
   pub whole : IsAtRecordsEnd status → IsWhole c from input plant drops
   pub came : HasCome c from input plant drops status
   pub part : input.tells → plant.tells → GainsPart (output_of c from input.bytes) (sent plant.before) (sent plant.after)
+  pub room : plant.tells → status ≢ LogFault → KeepsRoom c.log_limit (content plant.before) (content plant.after)
   pub settled : plant.tells → status ≢ LogFault → IsSettled plant.after
 
 -- what a run prints that ends well: how many records and packets there were, and what was dropped

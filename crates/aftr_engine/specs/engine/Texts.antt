@@ -2,7 +2,7 @@
 use Rattle.std.specs.Prelude.{◌≡◌, ◌⊎◌, ℕ, List, [], codes}
 use Rattle.aftr_base.specs.declared.outcome.Status.{Status}
 use Rattle.aftr_base.specs.declared.outcome.Status.TheVariants.{Ok, BadConfig, OutFault, NoMemory}
-use Rattle.aftr_engine.specs.declared.tally.Tally.{Tally}
+use Rattle.egress_gate.specs.declared.tally.Tally.{Tally}
 use Rattle.aftr_base.specs.declared.told.Told.{Told}
 use Rattle.aftr_engine.specs.declared.engine.Answer.{Answer}
 use Rattle.aftr_engine.specs.declared.engine.Ended.{Ended}

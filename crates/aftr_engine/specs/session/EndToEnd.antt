@@ -5,8 +5,8 @@ use Rattle.aftr_base.specs.declared.told.Told.{Told}
 use Rattle.cfg_text.specs.declared.config.Config.{Config}
 use Rattle.xlate_core.specs.Run.{told_of}
 use Rattle.xlate_core.specs.Run.{Run, run, start}
-use Rattle.aftr_engine.specs.link_records.Frames.{frames_of}
-use Rattle.aftr_engine.specs.egress_gate.Output.{output}
+use Rattle.link_records.specs.Frames.{frames_of}
+use Rattle.egress_gate.specs.Output.{output}
 use Rattle.aftr_engine.specs.report.Lines.{summary}
 
 -- the translator's run over the records of an input

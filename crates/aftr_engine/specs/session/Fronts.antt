@@ -8,9 +8,10 @@ use Rattle.aftr_base.specs.declared.outcome.Status.TheVariants.{Ok, BadInput, Re
 use Rattle.aftr_base.specs.Drops.{drop_counts}
 use Rattle.cfg_text.specs.declared.config.Config.{Config}
 use Rattle.xlate_core.specs.Step.{step}
-use Rattle.aftr_engine.specs.link_records.Frames.{frames_of}
-use Rattle.aftr_engine.specs.egress_gate.Logged.{EndsAt, Tells, body_for}
-use Rattle.aftr_engine.specs.egress_gate.Output.{output}
+use Rattle.link_records.specs.Frames.{frames_of}
+use Rattle.egress_gate.specs.Held.{body_for}
+use Rattle.egress_gate.specs.Logged.{EndsAt, Tells}
+use Rattle.egress_gate.specs.Output.{output}
 use Rattle.aftr_engine.specs.session.EndToEnd.{front_run, told_behind}
 use Rattle.plant_io.specs.Uses.{SourceUse, PlantUse}
 

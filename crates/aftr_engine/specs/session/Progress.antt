@@ -4,10 +4,10 @@ use Rattle.aftr_base.specs.declared.event.Event.{Event}
 use Rattle.aftr_base.specs.declared.told.Told.{Told}
 use Rattle.aftr_base.specs.Drops.{drop_counts}
 use Rattle.xlate_core.specs.Run.{Run}
-use Rattle.aftr_engine.specs.link_records.Frames.{Input, frames_of, frames_from}
-use Rattle.aftr_engine.specs.egress_gate.Logged.{EndsAt}
-use Rattle.aftr_engine.specs.egress_gate.Output.{output}
-use Rattle.aftr_engine.specs.declared.tally.Tally.{Tally}
+use Rattle.link_records.specs.Frames.{Input, frames_of, frames_from}
+use Rattle.egress_gate.specs.Logged.{EndsAt}
+use Rattle.egress_gate.specs.Output.{output}
+use Rattle.egress_gate.specs.declared.tally.Tally.{Tally}
 use Rattle.aftr_engine.specs.session.EndToEnd.{told_behind}
 
 -- these records before those of an input

@@ -7,8 +7,8 @@ use Rattle.xlate_core.specs.Run.{Run}
 use Rattle.xlate_core.specs.Valid.{IsStart}
 use Rattle.recovery.specs.Closings.{recovered}
 use Rattle.recovery.specs.Leaves.{RecoverLeaves}
-use Rattle.aftr_engine.specs.egress_gate.Logged.{Tells}
-use Rattle.aftr_engine.specs.egress_gate.Output.{output}
+use Rattle.egress_gate.specs.Logged.{Tells}
+use Rattle.egress_gate.specs.Output.{output}
 use Rattle.aftr_engine.specs.session.EndToEnd.{front_run, told_behind}
 
 -- What was sent is a part of what this run sends, and the log that is left tells what it came to.

@@ -6,8 +6,8 @@ use Rattle.aftr_base.specs.declared.told.Told.{Told}
 use Rattle.cfg_text.specs.declared.config.Config.{Config}
 use Rattle.xlate_core.specs.State.{State}
 use Rattle.xlate_core.specs.Run.{run, start}
-use Rattle.aftr_engine.specs.link_records.Frames.{input_limit}
-use Rattle.aftr_engine.specs.egress_gate.Counting.{Passed}
+use Rattle.link_records.specs.Frames.{input_limit}
+use Rattle.egress_gate.specs.Held.{Gated}
 use Rattle.aftr_engine.specs.session.Progress.{TalliesRun, HasSent, HasRead}
 
 -- where a run stands: the bytes that are left behind the offset, what was sent, the log's bytes, and those that count
@@ -20,7 +20,7 @@ pub record Standing : Type 0 where
 
 -- The input and the plant have their part where they tell what they hold. The log began with so many bytes that count.
 pub record IsUnderWay (c : Config) (told : Told) (began : ℕ) (input_tells plant_tells : Type 0) (input past : List ℕ) (w : Standing)
-    (state : State) (p : Passed) : Type 0 where
+    (state : State) (p : Gated) : Type 0 where
   pub seen : List Event
   pub timely : All (λ (e : Event). e.at.0 ≤ moment_limit) seen
   pub reaches : state ≡ (run (start c told) seen).state

@@ -1,4 +1,4 @@
-use Rattle.std.proofs.Common.{◌≡◌, ◌<◌, inl, ℕ, List, [], length, refl, subst}
+use Rattle.std.proofs.Common.{◌≡◌, ◌<◌, ℕ, List, [], length, refl, subst}
 use Rattle.std.specs.Prelude.{Some}
 use Rattle.plant_io.specs.Uses.{plant_use}
 use Rattle.cfg_text.specs.Defaults.{defaults}
@@ -10,10 +10,11 @@ use Rattle.aftr_engine.specs.engine.Texts.{text_of}
 use Rattle.aftr_base.specs.declared.told.Told.{Told}
 use Rattle.aftr_engine.specs.engine.Asking.{AnsweredAs}
 use Rattle.aftr_engine.proofs.Attribution.{names_front, valid_front}
-use Rattle.aftr_engine.proofs.Endings.{answers_by, init_answers_none, run_answers_none, defaults_accepted, ended_so, faulted, made_says, ran_says, words_say}
+use Rattle.aftr_engine.proofs.Endings.{answers_by, init_answers_none, run_answers_none, defaults_accepted, ended_so, faulted, made_says}
+use Rattle.aftr_engine.proofs.Endings.{ran_says, words_say}
 use Rattle.aftr_engine.proofs.LogStops.{leaves_start, read_leaves}
 use Rattle.aftr_engine.proofs.Begins.{begins}
-use Rattle.aftr_engine.proofs.NamesApart.{one_name_disjoint}
+use Rattle.egress_gate.proofs.NamesApart.{one_name_disjoint}
 use Rattle.aftr_engine.proofs.Firsts.{first_is, first_used, some_input}
 use Rattle.aftr_engine.proofs.engine.aftr.Goals as goal
 use Rattle.aftr_engine.proofs.engine.aftr.Goals.{in-Some-Init, in-Some-Run, in-Some-Trace, in-Some-Leases, in-None}

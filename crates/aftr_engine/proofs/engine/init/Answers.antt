@@ -14,7 +14,8 @@ returns-in-Err-Failed g c =
     let before = g.P.Plant.story c.args.plant.now in
     let after = g.P.Plant.story c.make.new.plant in
     let plant = plant_use g.P.Plant c.args.plant.now c.make.new.plant in
-    made ended (subst (MakesFor plant) (sym c.early-in-Err-Failed.ensures.status) (c.in-Err-Failed.ensures.failed (cc (c.in-Err-Failed.is, c.in-Err-Failed.field-0-is))))
+    made ended (subst (MakesFor plant) (sym c.early-in-Err-Failed.ensures.status)
+    (c.in-Err-Failed.ensures.failed (cc (c.in-Err-Failed.is, c.in-Err-Failed.field-0-is))))
     c.early-in-Err-Failed.ensures.drops
     (λ ok. absurd (cc (ok, c.early-in-Err-Failed.ensures.status))) (λ tells ok. absurd (cc (ok, c.early-in-Err-Failed.ensures.status)))
     (λ tells ok. absurd (cc (ok, c.early-in-Err-Failed.ensures.status)))

@@ -4,7 +4,7 @@ use Rattle.aftr_engine.specs.engine.Texts.{text_of}
 use Rattle.aftr_engine.proofs.Attribution.{names_front, valid_front}
 use Rattle.aftr_engine.proofs.Begins.{begins}
 use Rattle.aftr_engine.proofs.Firsts.{first_is, first_used}
-use Rattle.aftr_engine.proofs.NamesApart.{one_name_disjoint}
+use Rattle.egress_gate.proofs.NamesApart.{one_name_disjoint}
 use Rattle.aftr_engine.proofs.engine.run_config.Goals as goal
 
 pub returns-clause-run : goal.returns-clause-run

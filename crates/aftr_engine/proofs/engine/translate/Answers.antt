@@ -67,7 +67,8 @@ returns-in-Ok-new-clause-stops g c = λ reads tells.
 
 pub returns-clause-ran : goal.returns-clause-ran
 returns-clause-ran g c =
-    refused c.early-in-Err-new.result c.early-in-Err-new.ensures.status c.early-in-Err-new.ensures.drops (inr ((λ _. refl), tt)) (λ reads. refl)
+    refused c.early-in-Err-new.result c.early-in-Err-new.ensures.status c.early-in-Err-new.ensures.drops (inr ((λ _. refl), tt))
+    (λ reads. refl)
     c.ready_log.ensures.unsent (λ tells. rows_kept (c.in-Ok.ensures.recovered tells))
 
 pub returns-clause-stops : goal.returns-clause-stops

@@ -6,7 +6,8 @@ use Rattle.aftr_engine.proofs.report.write_told.Goals as goal
 pub returns-in_err-write_leases : goal.returns-in_err-write_leases
 returns-in_err-write_leases g c =
     let told = c.args.listing.now.told in
-    first_of_three (lease_lines told.leases) (plan_lines told.plans) (horizon_line told.horizon.0) c.from_residual.result c.from_residual.ensures.0
+    first_of_three (lease_lines told.leases) (plan_lines told.plans)
+    (horizon_line told.horizon.0) c.from_residual.result c.from_residual.ensures.0
     (rw c.as_slice.ensures at c.in_err-write_leases.ensures)
 
 pub returns-in_err-write_lines : goal.returns-in_err-write_lines

@@ -1,13 +1,17 @@
 use Rattle.std.proofs.Common.{◌≡◌, ℕ, List, ◌++◌, length, refl, sym, ap, ◌∙◌, subst, arith}
+use Rattle.plant_io.specs.Story.{content}
 use Rattle.cfg_text.specs.declared.config.Config.{Config}
-use Rattle.std.specs.Prelude.{Ok}
+use Rattle.std.specs.Prelude.{Result, Ok, Err}
 use Rattle.aftr_base.specs.Telling.{in_message_order, told_after}
 use Rattle.xlate_core.specs.State.{State}
 use Rattle.xlate_core.specs.Step.{log_of, step}
 use Rattle.xlate_core.specs.Run.{told_of}
-use Rattle.aftr_engine.specs.egress_gate.Logged.{told_next}
+use Rattle.aftr_base.specs.declared.told.Told.{Told}
+use Rattle.lease_log.specs.Log.{Log}
+use Rattle.egress_gate.specs.Logged.{EndsAt, told_next}
 use Rattle.aftr_engine.specs.session.Begun.{config_of, told_at}
-use Rattle.aftr_engine.proofs.RunSteps.{begun, onward, are_few, config_stays, ends_now, few_logged, room_kept, way_sent, way_within, all_seen, at_end, at_bad}
+use Rattle.aftr_engine.proofs.RunSteps.{begun, onward, are_few, config_stays, ends_now, few_logged, room_kept, way_sent, way_within}
+use Rattle.aftr_engine.proofs.RunSteps.{all_seen, at_end, at_bad}
 use Rattle.aftr_engine.proofs.FrontSteps.{way_counts, way_sent_first, way_treated, way_taken, way_sending, way_full}
 use Rattle.aftr_engine.proofs.RunStops.{accounted_start, way_stops}
 use Rattle.aftr_engine.proofs.Attribution.{told_start, follows}
@@ -21,15 +25,20 @@ loop-event-init g c = record {
       c.requires.begun.offset
       (record { state = c.requires.begun.state; count = c.requires.begun.count; counts = c.requires.begun.counts })
       (told_start (config_of c.args.self.now) (told_at c.args.self.now)) (λ tells. refl) c.requires.tells;
+  idle = c.requires.begun.idle;
   journal = c.requires.journal;
   settled = c.requires.settled;
   stops = λ reads tells.
-      accounted_start (config_of c.args.self.now) (told_at c.args.self.now) (g.P.Plant.story c.args.plant.now) (g.I.Source.rest c.args.input.now)
+      accounted_start (config_of c.args.self.now) (told_at c.args.self.now) (g.P.Plant.story c.args.plant.now)
+      (g.I.Source.rest c.args.input.now)
       (c.requires.settled tells) (_, c.requires.tells tells) (told_start (config_of c.args.self.now) (told_at c.args.self.now));
   input_later = omega arith;
   disk_later = omega arith;
   outlet_later = omega arith;
 }
+
+pub pass-requires-clause-idle : goal.pass-requires-clause-idle
+pass-requires-clause-idle g c = c.loop-event.invariant.idle
 
 pub pass-requires-clause-few : goal.pass-requires-clause-few
 pass-requires-clause-few g c = are_few c.loop-event.invariant.way
@@ -50,7 +59,7 @@ pass-requires-clause-follows g c =
     (follows way.seen e count c.requires.start way.timely c.in-Got.ensures.moment)
 
 pub loop-event-preserved : goal.loop-event-preserved
-loop-event-preserved g c = record {
+loop-event-preserved g c = rw c.in-Ok.ensures.reader (record {
   way = onward c.loop-event.invariant.way (record {
     read = c.in-Got.ensures.reads;
     early = c.in-Got.ensures.moment;
@@ -63,6 +72,7 @@ loop-event-preserved g c = record {
     tells = c.in-Ok.ensures.tells;
     room = room_kept c.loop-event.invariant.way c.in-Ok.ensures.room;
   });
+  idle = c.in-Ok.ensures.idle;
   journal = c.in-Ok.ensures.journal;
   settled = c.in-Ok.ensures.settled;
   stops = λ reads tells.
@@ -71,7 +81,7 @@ loop-event-preserved g c = record {
   input_later = omega (arith, c.loop-event.invariant.input_later, c.in-Got.ensures.later);
   disk_later = omega (arith, c.loop-event.invariant.disk_later, c.in-Ok.ensures.disk_later);
   outlet_later = omega (arith, c.loop-event.invariant.outlet_later, c.in-Ok.ensures.outlet_later);
-}
+})
 
 -- ---- how far it came
 
@@ -177,7 +187,7 @@ returns-in-Err-Outlet-clause-came g c =
       done = λ reads tells.
           way_sending now way (g.P.Plant.story c.pass.new.plant) reads tells
           (c.in-Got.ensures.reads reads) (failed.part tells)
-          (failed.told tells (cc c.in-Err-Outlet.field-0-is));
+          (_, failed.told tells (cc c.in-Err-Outlet.field-0-is));
     })
 
 -- ---- why, and what is counted and settled
@@ -260,3 +270,24 @@ pub returns-in-Err-Outlet-clause-stops : goal.returns-in-Err-Outlet-clause-stops
 returns-in-Err-Outlet-clause-stops g c = λ reads tells.
     way_stops _ _ _ c.loop-event.invariant.way reads tells (c.in-Got.ensures.reads reads)
     (c.loop-event.invariant.stops reads tells) (c.in-Err-Outlet.ensures.stops tells)
+
+-- ---- in how much room
+
+same_tail : (file : List ℕ) {t u : Told} {tail other : ℕ} → EndsAt file t tail → EndsAt file u other → other ≡ tail
+same_tail file is also = ap tail_in (sym also ∙ is)
+  where
+    tail_in : Result Log ℕ → ℕ
+    tail_in (Ok log) = log.tail
+    tail_in (Err offset) = offset
+
+pub returns-in-Err-Outlet-clause-room : goal.returns-in-Err-Outlet-clause-room
+returns-in-Err-Outlet-clause-room g c = λ now tail tells kept is.
+    let failed = c.in-Err-Outlet.ensures in
+    let told = failed.told tells (cc c.in-Err-Outlet.field-0-is) in
+    let room = failed.room_told (cc c.in-Err-Outlet.field-0-is) in
+    omega (
+      arith,
+      same_tail (content (g.P.Plant.story c.pass.new.plant)) told is,
+      room_kept c.loop-event.invariant.way room,
+      c.loop-event.invariant.way.room,
+    )

@@ -1,4 +1,4 @@
-use Rattle.std.proofs.Common.{◌≤◌, ◌-◌, ◌+◌, ◌++◌}
+use Rattle.std.proofs.Common.{◌≡◌, ◌≤◌, ◌-◌, ◌+◌, ◌++◌}
 use Rattle.plant_io.specs.Stops.{StopsLeave}
 use Rattle.plant_io.specs.Story.{content, sent, IsSettled}
 use Rattle.lease_log.specs.Answers.{IsAtTail}
@@ -19,6 +19,7 @@ invariant-loop-event g l = record {
         log = content (g.P.Plant.story l.plant);
         tail = l.self.journal.at + 1;
       }) l.self.core l.self.gate;
+  idle : l.self.gate.held.records ≡ 0;
   journal : IsAtTail l.self.journal;
   settled : g.P.Plant.tells → IsSettled (g.P.Plant.story l.plant);
   stops : g.I.Source.tells → g.P.Plant.tells → StopsLeave (g.P.Plant.story l.fn.plant) (g.P.Plant.story l.plant)

@@ -1,7 +1,0 @@
-use Rattle.aftr_engine.proofs.WindowSteps.{passed}
-use Rattle.aftr_engine.proofs.link_records.window.Window.pass.Goals as goal
-
-pub returns : goal.returns
-returns c =
-    let w = c.args.self.now in
-    passed w.buffer.items w.first w.end c.args.count c.requires

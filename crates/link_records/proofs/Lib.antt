@@ -1,0 +1,2 @@
+mod WindowSteps
+pub mod FrameSteps
