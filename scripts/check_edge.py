@@ -18,13 +18,13 @@ import os
 import shutil
 import subprocess
 import sys
-import tempfile
 from typing import Callable, Dict, Iterator, List, NamedTuple, Optional, Sequence, Tuple
 
 from log_form import EMPTY_LOG, Damaged, Told, read_log
 from model import told_lines
 from senders import NoOutlet, Stream, closed, keeps, misnamed, whole_packets
-from traced_calls import Follower, OutOfOrder, bytes_of, traced
+from traced_calls import Follower, OutOfOrder, traced
+from work_folder import WorkFiles, work_folder
 
 SCRIPTS = os.path.dirname(os.path.abspath(__file__))
 FIRST_MOMENT = 1_000_000
@@ -44,24 +44,8 @@ def demand(holds: bool, what: str) -> None:
         raise Wrong(what)
 
 
-class Room:
+class Room(WorkFiles):
     """A folder with the files of one case, and the program in it."""
-
-    def __init__(self, program: str, inside: Optional[str] = None) -> None:
-        self.program = program
-        self.folder = os.path.realpath(tempfile.mkdtemp(prefix="check_edge.", dir=inside))
-        self.write("config.toml", b"")
-        self.write("nothing", b"")
-
-    def path(self, name: str) -> str:
-        return os.path.join(self.folder, name)
-
-    def write(self, name: str, data: bytes) -> None:
-        with open(self.path(name), "wb") as out:
-            out.write(data)
-
-    def read(self, name: str) -> bytes:
-        return bytes_of(self.path(name))
 
     def call(self, *words: str, before: Sequence[str] = (), settings: Optional[Dict[str, str]] = None) -> Answer:
         """The status and the report, which goes to a file. Nothing goes to standard error."""
@@ -132,14 +116,15 @@ def short_calls_change_nothing(room: Room, library: str) -> None:
     plain = story_of(room, {})
     demand(min(len(whole_packets(outlet)[0]) for outlet in plain[1][:2]) > 20, "too few packets to tell")
     for most in (1, 7):
-        other = Room(room.program, room.folder)
-        settings = {"LD_PRELOAD": library, "SHORT_CALLS_MOST": str(most), "SHORT_CALLS_SEEN": other.path("seen")}
-        found = story_of(other, settings)
-        cuts = other.read("seen").count(b"c")
-        differing = [pair for pair in zip(found[0], plain[0]) if pair[0] != pair[1]]
-        demand(not differing, f"with {most} bytes a call, and without that, it answers {differing[:1]}")
-        demand(found[1] == plain[1], f"with {most} bytes a call the outlets or the log have other bytes")
-        demand(cuts > 100, f"only {cuts} calls were cut")
+        with work_folder("short_calls", room.folder) as folder:
+            other = Room(room.program, folder)
+            settings = {"LD_PRELOAD": library, "SHORT_CALLS_MOST": str(most), "SHORT_CALLS_SEEN": other.path("seen")}
+            found = story_of(other, settings)
+            cuts = other.read("seen").count(b"c")
+            differing = [pair for pair in zip(found[0], plain[0]) if pair[0] != pair[1]]
+            demand(not differing, f"with {most} bytes a call, and without that, it answers {differing[:1]}")
+            demand(found[1] == plain[1], f"with {most} bytes a call the outlets or the log have other bytes")
+            demand(cuts > 100, f"only {cuts} calls were cut")
 
 
 # ---- calls that fail
@@ -355,16 +340,14 @@ class Checks:
         self.passed = self.failed = 0
 
     def check(self, name: str, case: Callable[[Room], None]) -> None:
-        room = Room(self.program)
         try:
-            case(room)
+            with work_folder("check_edge") as folder:
+                case(Room(self.program, folder))
             self.passed += 1
         except (Wrong, OutOfOrder, NoOutlet, Damaged) as wrong:
             self.failed += 1
             said = f"the log is damaged at {wrong}" if isinstance(wrong, Damaged) else wrong
-            print(f"failed: {name}\n    {said}")
-        finally:
-            shutil.rmtree(room.folder)
+            print(f"failed: {name}\n    {said}\n    the files are in {folder}")
 
 
 def has_strace() -> bool:
@@ -387,20 +370,19 @@ def built_library(folder: str) -> Optional[str]:
 
 def is_heard(program: str, library: str) -> bool:
     """Whether the program's calls go through the library. They don't where it is linked statically."""
-    room = Room(program)
-    settings = {"LD_PRELOAD": library, "SHORT_CALLS_SEEN": room.path("seen"), "SHORT_CALLS_MOST": "1"}
-    room.call("init", "log", settings=settings)
-    seen = room.read("seen")
-    shutil.rmtree(room.folder)
+    with work_folder("check_edge") as folder:
+        room = Room(program, folder)
+        settings = {"LD_PRELOAD": library, "SHORT_CALLS_SEEN": room.path("seen"), "SHORT_CALLS_MOST": "1"}
+        room.call("init", "log", settings=settings)
+        seen = room.read("seen")
     return seen.startswith(b"l") and b"c" in seen
 
 
 def injects(program: str) -> bool:
     """Whether strace makes calls on a file fail, which old ones don't."""
-    room = Room(program)
-    failed = ByStrace().call(room, Fault("lock", "log", errno.EIO, LOG_FAULT, words=("init", "log")), 1)[1]
-    shutil.rmtree(room.folder)
-    return failed
+    fault = Fault("lock", "log", errno.EIO, LOG_FAULT, words=("init", "log"))
+    with work_folder("check_edge") as folder:
+        return ByStrace().call(Room(program, folder), fault, 1)[1]
 
 
 def check_faults(checks: Checks, way: Way, faults: Sequence[Fault]) -> None:
@@ -436,7 +418,7 @@ def main() -> int:
         print("usage: check_edge.py PROGRAM", file=sys.stderr)
         return 1
     checks = Checks(os.path.abspath(sys.argv[1]))
-    with tempfile.TemporaryDirectory() as folder:
+    with work_folder("check_edge") as folder:
         check_all(checks, folder)
     print(f"{checks.passed} passed, {checks.failed} failed")
     return 1 if checks.failed else 0

@@ -3,9 +3,11 @@
 whole in an outlet must be named by the log, as it lies and ever after, with its sender and nobody else.
 
 One log is made. Each run gets the next part of an endless input and an outlet of its own, and is killed while it
-runs; half of the times a run without any record comes next, which recovers the log. After each kill and each run every
-packet so far is looked up by the plain model's reader, and some of them are asked of `trace`. What is told once stays
-told: open leases close at the horizon, and nothing else changes.
+runs; half of the times a run without any record comes next, which recovers the log. After each kill and each run the
+log is read on, and what it tells is asked of `leases`, and whom it names for some packets of `trace`. What is told once
+stays told: open leases close at the horizon, and nothing else changes. A packet is looked up as long as its lease is
+open, and no lease may ever meet another one. At the end, and all along where the kills are few, the plain model's
+reader reads the whole log, and every packet so far is looked up in what it reads.
 
 Then recoveries are killed that write more than one frame, of a log of many open leases that nobody closed. The next
 run takes up where the last one was, and leaves the bytes that one recovery alone leaves.
@@ -18,24 +20,25 @@ from __future__ import annotations
 import argparse
 import os
 import random
-import shutil
 import subprocess
 import sys
-import tempfile
 import time
 from collections import Counter
+from copy import deepcopy
 from typing import List, Tuple
 
+from growing_log import Changed, GrowingLog, Step
 from log_form import Batch, Damaged, Lease, Prefix, Told, read_log, spelled_log
 from model import SUBSCRIBER_LENGTH, told_lines, trace_line
 from packets import quad, softwire_of
-from senders import NoOutlet, Sent, Stream, closed, keeps, misnamed, whole_packets
-from traced_calls import bytes_of
+from senders import NoOutlet, Promises, Sent, Stream, closed, keeps, misnamed, whole_packets
+from work_folder import WorkFiles, work_folder
 
 FIRST_MOMENT = 1_000_000
 SETTLING = 1_000  # a run's first packets are this long before the moment from which packets are sent
 RUN_SECONDS = 0.5  # of a whole run, about
 FEWEST, MOST = 100, 4_000  # records of a run
+FEW_KILLS = 10  # after each of which the plain reader reads the log, too
 OPEN_LEASES = 1_100
 NOTHING = "records 0\nsent 0\nmarks 0\n"
 
@@ -49,24 +52,8 @@ def demand(holds: bool, what: str) -> None:
         raise Violation(what)
 
 
-class Files:
-    """The program in a folder with its files."""
-
-    def __init__(self, program: str, folder: str) -> None:
-        self.program = program
-        self.folder = folder
-        self.write("config.toml", b"")
-        self.write("nothing", b"")
-
-    def path(self, name: str) -> str:
-        return os.path.join(self.folder, name)
-
-    def write(self, name: str, data: bytes) -> None:
-        with open(self.path(name), "wb") as out:
-            out.write(data)
-
-    def read(self, name: str) -> bytes:
-        return bytes_of(self.path(name))
+class Files(WorkFiles):
+    """The program in a folder with its files, and its whole and its killed runs."""
 
     def call(self, *words: str) -> str:
         """What a command prints, which has to end well."""
@@ -103,16 +90,26 @@ class Files:
 class Trial:
     """One log, and all that was sent onto its name."""
 
-    def __init__(self, files: Files, seed: int, asked: int) -> None:
+    def __init__(self, files: Files, seed: int, asked: int, is_short: bool) -> None:
         self.files = files
         self.random = random.Random(seed)
         self.stream = Stream(seed)
         self.asked = asked
-        self.packets: List[Sent] = []
-        self.told = Told()
+        self.is_short = is_short
+        self.promises = Promises()
+        self.log = GrowingLog()
+        self.plain = Told()
         self.counts: Counter[str] = Counter()
         self.records = FEWEST
         self.start = self.seconds = 0.0  # of a run without a record, and of the records of one
+
+    @property
+    def told(self) -> Told:
+        return self.log.told
+
+    @property
+    def packets(self) -> List[Sent]:
+        return self.promises.packets
 
     def measure(self) -> None:
         """Finds how many records make a run of the wanted length, on a log that isn't used otherwise."""
@@ -138,7 +135,7 @@ class Trial:
         was_running = self.files.run_killed(outlet, "in", self.delay())
         found = self.files.read(outlet)
         packets, cut = whole_packets(found)
-        self.packets += packets
+        self.promises.add(packets)
         self.look("after the kill")
         early = [packet for packet in packets if packet.moment <= floor]
         demand(not early, f"a packet left at {early[:1]}, and the log tells up to {floor} what was before")
@@ -149,12 +146,12 @@ class Trial:
 
     def recover(self) -> None:
         """A run without a record: it closes all leases at the horizon, and does nothing else."""
-        before = told_lines(closed(self.told))
         printed, self.start = self.files.run("nowhere", "nothing")
         demand(printed == NOTHING, f"a run without a record prints {printed!r}")
         demand(self.files.read("nowhere") == b"", "a run without a record sends something")
-        self.look("after the recovery")
-        demand(told_lines(self.told) == before, "the recovery did more than to close all leases at the horizon")
+        step = self.look("after the recovery")
+        as_wanted = told_lines(closed(step.before)) == told_lines(step.after)
+        demand(as_wanted, "the recovery did more than to close all leases at the horizon")
         self.ask(self.some(self.packets, self.asked // 4))
 
     def run_whole(self) -> None:
@@ -163,21 +160,29 @@ class Trial:
         printed, _ = self.files.run("last", "in")
         packets, cut = whole_packets(self.files.read("last"))
         demand(f"sent {len(packets)}\n" in printed and packets != [] and cut == 0, f"the last run prints {printed!r}")
-        self.packets += packets
+        self.promises.add(packets)
         self.look("after the last run")
 
-    def look(self, when: str) -> None:
-        """Reads the log as it lies: it tells what it told before, and names every packet so far."""
-        try:
-            told = read_log(self.files.read("log"))
-        except Damaged as damage:
-            raise Violation(f"{when} the log is damaged at {damage.offset}") from None
-        printed = self.files.call("leases", "log")
-        demand(printed == told_lines(told), f"{when} `leases` tells something else than stands there")
-        demand(keeps(self.told, told), f"{when} the log doesn't tell all that it told before")
-        wrong = misnamed(told, self.packets)
+    def look(self, when: str) -> Step:
+        """Reads the log on as it lies: it tells what it told before, and names every packet so far."""
+        step = read_on(self.log, self.files.read("log"), when)
+        wrong = self.promises.broken(self.told.horizon, step.opened)
         demand(wrong is None, f"{when} {wrong}")
-        self.told = told
+        printed = self.files.call("leases", "log")
+        demand(printed == self.log.lines(), f"{when} `leases` tells something else than stands there")
+        if self.is_short:
+            self.look_plainly(when)
+        return step
+
+    def look_plainly(self, when: str) -> None:
+        """The same for the whole log and every packet so far, by the plain reader."""
+        plain = read_log(self.files.read("log"))
+        demand(self.log.told.is_as(plain), f"{when} the log that was read on isn't as the plain reader reads it")
+        demand(told_lines(plain) == self.log.lines(), f"{when} the lines of the log that was read on are others")
+        demand(keeps(self.plain, plain), f"{when} the whole log doesn't tell all that it told before")
+        wrong = misnamed(plain, self.packets)
+        demand(wrong is None, f"{when} {wrong}, by the plain reader")
+        self.plain = plain
 
     def ask(self, packets: List[Sent]) -> None:
         """The program's own answers, which have to be those of the reader."""
@@ -190,6 +195,18 @@ class Trial:
 
     def some(self, packets: List[Sent], count: int) -> List[Sent]:
         return self.random.sample(packets, min(count, len(packets)))
+
+
+def read_on(log: GrowingLog, data: bytes, when: str) -> Step:
+    """What a log tells now that it has these bytes: all that it told before, and more."""
+    try:
+        step = log.read_on(data)
+    except Damaged as damage:
+        raise Violation(f"{when} the log is damaged at {damage.offset}") from None
+    except Changed as changed:
+        raise Violation(f"{when} the log has another byte at {changed.offset} than it had before") from None
+    demand(keeps(step.before, step.after), f"{when} the log doesn't tell all that it told before")
+    return step
 
 
 def log_of_open_leases() -> bytes:
@@ -217,12 +234,13 @@ def kill_recoveries(trial: Trial, kills: int) -> None:
     files.run("nowhere", "nothing", "many.log")
     alone = files.read("many.log")
     demand(told_lines(read_log(alone)) == told_lines(closed(read_log(before))), "a recovery leaves leases open")
+    log = GrowingLog()
+    log.read_on(before)
     for _ in range(kills):
         files.write("many.log", before)
         was_running = files.run_killed("nowhere", "nothing", trial.random.uniform(0, 0.02), "many.log", True)
-        found = read_log(files.read("many.log"))
-        demand(keeps(read_log(before), found), "a recovery that was killed doesn't tell all that was told before")
-        left = len(found.open_leases())
+        step = read_on(deepcopy(log), files.read("many.log"), "after a recovery was killed")
+        left = len(step.after.open_leases())
         other = f"a recovery that left {left} leases open isn't taken up by the next run"
         trial.counts["recoveries"] += was_running
         trial.counts["halves"] += 0 < left < OPEN_LEASES
@@ -252,6 +270,7 @@ def go(trial: Trial, kills: int) -> None:
         turn += 1
     trial.recover()
     trial.run_whole()
+    trial.look_plainly("at the end")
     kill_recoveries(trial, max(4, kills // 4))
     demand(kills < 10 or trial.counts["amid"] > 0, "no kill came amid a run, so nothing was tried")
 
@@ -267,14 +286,14 @@ def main() -> int:
     if not os.access(program, os.X_OK):
         print(f"no program at {program}: run scripts/build.sh", file=sys.stderr)
         return 1
-    folder = tempfile.mkdtemp(prefix="kill_and_recover.")
-    trial = Trial(Files(program, folder), arguments.seed, arguments.asked)
     try:
-        go(trial, arguments.kills)
+        with work_folder("kill_and_recover") as folder:
+            files, is_short = Files(program, folder), arguments.kills <= FEW_KILLS
+            trial = Trial(files, arguments.seed, arguments.asked, is_short)
+            go(trial, arguments.kills)
     except (Violation, NoOutlet, Damaged) as violation:
         print(f"failed: {violation}; {summary(trial)}; seed {arguments.seed}; the files are in {folder}")
         return 1
-    shutil.rmtree(folder)
     print(f"{summary(trial)}; seed {arguments.seed}")
     return 0
 

@@ -222,6 +222,21 @@ class Told:
     def open_plans(self) -> List[Plan]:
         return [plan for plan in self.plans if plan.until is None]
 
+    def take_frames(self, log: bytes) -> None:
+        """What stands from the gate on that was the closed one so far, up to the one that is closed now."""
+        gate = self.tail - 1
+        while log[gate] == OPEN_GATE:
+            begin = gate + 5
+            end = begin + int.from_bytes(log[gate + 1 : begin], "big")
+            if not SHORTEST_MESSAGE <= end - begin <= LONGEST_MESSAGE or end >= len(log):
+                raise Damaged(gate)
+            try:
+                self.take_message(log[begin:end])
+            except NoMessage:
+                raise Damaged(gate) from None
+            gate = end
+        self.tail = gate + 1
+
     def take_message(self, message: bytes) -> None:
         """What stands in the next message."""
         version, length, _, sequence, domain = MESSAGE_HEADER.unpack_from(message)
@@ -298,18 +313,8 @@ def read_log(log: bytes) -> Told:
     """What a log tells. Where it is none, it is damaged at a gate: the bytes behind it are no frame in its place."""
     if len(log) < len(EMPTY_LOG) or not log.startswith(HEADER):
         raise Damaged(0)
-    told, gate = Told(), len(HEADER)
-    while log[gate] == OPEN_GATE:
-        begin = gate + 5
-        end = begin + int.from_bytes(log[gate + 1 : begin], "big")
-        if not SHORTEST_MESSAGE <= end - begin <= LONGEST_MESSAGE or end >= len(log):
-            raise Damaged(gate)
-        try:
-            told.take_message(log[begin:end])
-        except NoMessage:
-            raise Damaged(gate) from None
-        gate = end
-    told.tail = gate + 1
+    told = Told()
+    told.take_frames(log)
     return told
 
 

@@ -27,18 +27,22 @@ def messages_of(log):
     return messages, None
 
 
-def main():
-    if len(sys.argv) != 2:
-        print("usage: log_messages.py LOG > FILE", file=sys.stderr)
+def show(words, usage, write):
+    """Writes the messages of the log that the words name in some way, and where it is damaged. The exit status."""
+    if len(words) != 2:
+        print(f"usage: {usage}", file=sys.stderr)
         return 2
-    with open(sys.argv[1], "rb") as source:
+    with open(words[1], "rb") as source:
         messages, damage = messages_of(source.read())
+    write(messages, damage)
+    return 0 if damage is None else 1
+
+
+def write_messages(messages, damage):
     sys.stdout.buffer.write(b"".join(messages))
     if damage is not None:
         print(f"the log is damaged at {damage}", file=sys.stderr)
-        return 1
-    return 0
 
 
 if __name__ == "__main__":
-    sys.exit(main())
+    sys.exit(show(sys.argv, "log_messages.py LOG > FILE", write_messages))

@@ -11,9 +11,9 @@ import struct
 from collections import defaultdict
 from typing import Dict, List, NamedTuple, Optional, Tuple
 
-from log_form import Place, Prefix, Told
-from model import IPV4_HEADER, POOL, SUBSCRIBER_LENGTH, block_of, blocks_under, checksum, number, prefix_text
-from model import quad_text, word
+from log_form import Lease, Place, Prefix, Told
+from model import IPV4_HEADER, POOL, SUBSCRIBER_LENGTH, block_of, blocks_under, checksum, lease_line, number
+from model import prefix_text, quad_text, word
 from packets import FROM_PUBLIC, FROM_SOFTWIRE, Softwire, Udp, frame, quad, softwire_of
 
 PAYLOAD = struct.Struct(">II")  # the subscriber's number, and the packet's
@@ -98,27 +98,77 @@ class Names:
 
     def __init__(self, told: Told) -> None:
         self.horizon = told.horizon
-        self.rows: Dict[Tuple[int, int], list] = defaultdict(list)
+        self.rows: Dict[Tuple[int, int], List[Lease]] = defaultdict(list)
         for lease in told.leases:
-            for block in blocks_under(lease):
-                self.rows[block].append(lease)
+            self.add(lease)
 
-    def of(self, packet: Sent) -> List[Prefix]:
+    def add(self, lease: Lease) -> None:
+        for block in blocks_under(lease):
+            self.rows[block].append(lease)
+
+    def rows_of(self, packet: Sent) -> List[Lease]:
         if packet.moment > self.horizon:
             return []
         rows = self.rows[block_of(packet.place)]
-        return [lease.owner for lease in rows if lease.holds(packet.place, packet.moment)]
+        return [lease for lease in rows if lease.holds(packet.place, packet.moment)]
+
+    def wrong_in(self, packet: Sent, rows: List[Lease]) -> Optional[str]:
+        """Where the rows of a packet name anybody but its sender, or nobody: that, in words."""
+        owners = [lease.owner for lease in rows]
+        if owners == [packet.owner]:
+            return None
+        found = " and ".join(map(prefix_text, owners)) or f"nobody up to {self.horizon}"
+        return f"the log names {found} for {' '.join(packet.words())}, which {prefix_text(packet.owner)} sent"
+
+    def add_new(self, lease: Lease) -> Optional[str]:
+        """Adds a row. Where another one holds a place of it at a moment of it: that, in words."""
+        others = [other for block in blocks_under(lease) for other in self.rows[block]]
+        self.add(lease)
+        for other in others:
+            if other.overlaps(lease.address, lease.first, lease.last) and meet(lease, other):
+                rows = " and ".join(lease_line(row).strip() for row in (other, lease))
+                return f"the log has two rows for one place and moment: {rows}"
+        return None
+
+
+def meet(one: Lease, other: Lease) -> bool:
+    """Whether there is a moment of both. An open lease goes on."""
+    begin = max(one.since, other.since)
+    return all(lease.until is None or begin <= lease.until for lease in (one, other))
 
 
 def misnamed(told: Told, packets: List[Sent]) -> Optional[str]:
     """The first packet for which a log names anybody but its sender, or nobody, in words."""
     names = Names(told)
-    for packet in packets:
-        owners = names.of(packet)
-        if owners != [packet.owner]:
-            found = " and ".join(map(prefix_text, owners)) or f"nobody up to {names.horizon}"
-            return f"the log names {found} for {' '.join(packet.words())}, which {prefix_text(packet.owner)} sent"
-    return None
+    found = (names.wrong_in(packet, names.rows_of(packet)) for packet in packets)
+    return next(filter(None, found), None)
+
+
+class Promises:
+    """All packets so far, and whom a growing log names for them.
+
+    A packet is looked up again as long as its row is open. A row that has closed stays as it is, and no new one may
+    hold a place of it at a moment of it: so the packet has its name and no other one from then on.
+    """
+
+    def __init__(self) -> None:
+        self.packets: List[Sent] = []
+        self.unsettled: List[Sent] = []
+        self.names = Names(Told())
+
+    def add(self, packets: List[Sent]) -> None:
+        self.packets += packets
+        self.unsettled += packets
+
+    def broken(self, horizon: int, opened: List[Lease]) -> Optional[str]:
+        """What is wrong with a log of this horizon and these new rows, in words: two rows that meet, or the first
+        packet that isn't named rightly."""
+        self.names.horizon = horizon
+        wrong = list(map(self.names.add_new, opened))
+        looked_up = [(packet, self.names.rows_of(packet)) for packet in self.unsettled]
+        wrong += [self.names.wrong_in(packet, rows) for packet, rows in looked_up]
+        self.unsettled = [packet for packet, rows in looked_up if any(lease.until is None for lease in rows)]
+        return next(filter(None, wrong), None)
 
 
 def closed(told: Told) -> Told:

@@ -11,7 +11,7 @@ import ipaddress
 import struct
 import sys
 
-from log_messages import messages_of
+from log_messages import HEADER, show
 
 BLOCKS, HORIZON, PLAN = 256, 257, 258
 BLOCK = struct.Struct(">QB16sB4sHH")
@@ -42,13 +42,8 @@ def sets_of(message):
         at += max(length, 4)
 
 
-def main():
-    if len(sys.argv) != 2:
-        print("usage: show_log.py LOG", file=sys.stderr)
-        return 2
-    with open(sys.argv[1], "rb") as source:
-        messages, damage = messages_of(source.read())
-    gate = 16
+def print_frames(messages, damage):
+    gate = len(HEADER)
     for message in messages:
         _, length, exported, before, _ = struct.unpack_from(">HHIII", message)
         print(f"frame at {gate}: {length} bytes exported at {exported}, {before} records before")
@@ -57,8 +52,7 @@ def main():
                 print(f"  {line}")
         gate += 5 + len(message)
     print(f"end at {gate}" if damage is None else f"damage at {damage}")
-    return 0 if damage is None else 1
 
 
 if __name__ == "__main__":
-    sys.exit(main())
+    sys.exit(show(sys.argv, "show_log.py LOG", print_frames))

@@ -13,6 +13,7 @@ from typing import Dict, List, NamedTuple, Optional, Sequence
 
 from log_form import EMPTY_LOG, Damaged, read_log
 from senders import Sent, misnamed, whole_packets
+from work_folder import bytes_of
 
 LINE = re.compile(r"(?:\d+ +)?(\w+)\((.*)\) += (-?\d+)(?: .*)?")
 STRING = re.compile(r'"((?:\\x[0-9a-f]{2})*)"')
@@ -168,14 +169,6 @@ class Follower:
             wrong = f"it is damaged at {damage.offset}"
         demand(wrong is None, f"a packet is sent, and of the log that is safe then {wrong}")
         self.named = len(packets)
-
-
-def bytes_of(path: str) -> bytes:
-    """The bytes of a file, and none where it is missing."""
-    if not os.path.exists(path):
-        return b""
-    with open(path, "rb") as source:
-        return source.read()
 
 
 def is_frame(body: bytes) -> bool:
