@@ -3,8 +3,10 @@ use Rattle.std.proofs.Common.{◌≡◌, ◌≢◌, inl, inr, ℕ, ◌≤◌, ma
 use Rattle.std.specs.Prelude.{Option, Some, unwrap_or, Result, Ok as Good, Err}
 use Rattle.plant_io.specs.Sink.{GainsPart}
 use Rattle.plant_io.specs.Story.{Story, content, sent, IsSettled}
+use Rattle.plant_io.specs.Stops.{StopsLeave}
 use Rattle.plant_io.specs.Uses.{SourceUse, PlantUse, SinkUse}
 use Rattle.disk_journal.specs.Frames.{empty_log}
+use Rattle.disk_journal.specs.Make.{MakeLeaves}
 use Rattle.aftr_base.specs.Drops.{drop_counts}
 use Rattle.aftr_base.specs.declared.told.Told.{Told}
 use Rattle.aftr_base.specs.declared.outcome.Status.{Status}
@@ -318,13 +320,15 @@ pub made : {plant : PlantUse} (ended : Ended) → MakesFor plant ended.status �
     → (plant.tells → ended.status ≡ Ok → content plant.after ≡ empty_log)
     → (plant.tells → ended.status ≡ Ok → IsSettled plant.after)
     → ((size : ℕ) → plant.tells → ended.status ≡ AlreadyThere size → IsKept plant)
-    → (plant.tells → sent plant.after ≡ sent plant.before) → EndsBy (MadeAs plant ended.tally.drops.0) ended
-made ended why none nothing is settled same unsent = record {
+    → (plant.tells → sent plant.after ≡ sent plant.before) → (plant.tells → StopsLeave plant.before plant.after (MakeLeaves plant.before))
+    → EndsBy (MadeAs plant ended.tally.drops.0) ended
+made ended why none nothing is settled same unsent stops = record {
   reason = why;
   made = is;
   settled = settled;
   same = same;
   unsent = unsent;
+  stops = stops;
   undropped = none;
   says = text_is ended.tally ended.answer ended.status (λ ok. ap (answer_text ended.tally) (nothing ok));
 }

@@ -102,7 +102,7 @@ pub fn aftr<C: Source, I: Source, P: Plant, R: Sink>(
 
     // So the log that a stop leaves at any moment can be believed, where each that a stop at the start might have left could be: it
     // names for each packet that left whole the one subscriber whose it was, and still names whom it named.
-    ensures answers { (was : Told) → I.tells → P.tells → command_for words.now ≢ Some Init →
+    ensures answers { (was : Told) → I.tells → P.tells →
         Tells (content (P.story plant.old)) was → AreBelieved (IsImage (P.story plant.old)) →
         AnswersForEachPacket (P.story plant.old) (P.story plant.new)
         (run_of defaults (recovered was) (at_first [] I.rest inputs.old)).items }

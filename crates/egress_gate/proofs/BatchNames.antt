@@ -28,13 +28,13 @@ use Rattle.aftr_base.proofs.Founds.{some_inj}
 use Rattle.aftr_base.proofs.Pairwise.{zip_same}
 use Rattle.cfg_text.specs.Accepted.{is_accepted}
 use Rattle.xlate_core.specs.Expiry.{Closed, at_moment, closing_limit, with_idle_ended}
-use Rattle.xlate_core.specs.Run.{run, start, told_of}
+use Rattle.xlate_core.specs.Run.{start, told_of}
 use Rattle.xlate_core.specs.State.{State}
 use Rattle.xlate_core.specs.Step.{log_of, step}
 use Rattle.xlate_core.specs.Valid.{AreDisjoint, IsReached, KeepsTold}
 use Rattle.xlate_core.specs.declared.nat_mapping.Row.{Row}
 use Rattle.xlate_core.specs.nat_mapping.Rows.{expired}
-use Rattle.xlate_core.proofs.Clock.{by_moment, raised}
+use Rattle.xlate_core.proofs.Clock.{by_moment}
 use Rattle.xlate_core.proofs.Disjoint.{disjoint_run, valid_from}
 use Rattle.xlate_core.proofs.Holders.{holders, holds as holds_it, holds_parts}
 use Rattle.xlate_core.proofs.KeptTold.{told_kept}

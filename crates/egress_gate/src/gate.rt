@@ -89,12 +89,7 @@ impl Gate {
     /// Takes one record through the translator and holds what it gave: its packets and what it logs. `Flush` says that the
     /// batch is complete, which each is by one record. All the memory is taken here that the record needs up to its packets'
     /// sending; after `NoMemory` translator and gate are only dropped, but what passed is counted as before.
-    pub fn hold(
-        &mut self,
-        alloc: Global,
-        core: &mut Core,
-        event: &Event,
-    ) -> Result<Room, NoMemory>
+    pub fn hold(&mut self, alloc: Global, core: &mut Core, event: &Event) -> Result<Room, NoMemory>
         requires joins { self.old.held.records ≡ 0 }
         requires moment { event.now.at.0 ≤ moment_limit }
 
@@ -184,7 +179,8 @@ impl Gate {
         commit(journal, plant, limit, &mut self.batch.log)?;
         send(plant, self.batch.packets.as_slice())?;
         self.count += self.batch.log.len() as u64;
-        self.tally.count(self.batch.out.items.len(), self.batch.cause);
+        self.tally
+            .count(self.batch.out.items.len(), self.batch.cause);
         self.batch.records = 0;
         Ok(())
     }

@@ -12,7 +12,7 @@ use Rattle.aftr_engine.specs.engine.Asking.{AnsweredAs}
 use Rattle.aftr_engine.proofs.Attribution.{names_front, valid_front}
 use Rattle.aftr_engine.proofs.Endings.{answers_by, init_answers_none, run_answers_none, defaults_accepted, ended_so, faulted, made_says}
 use Rattle.aftr_engine.proofs.Endings.{ran_says, words_say}
-use Rattle.aftr_engine.proofs.LogStops.{leaves_start, read_leaves}
+use Rattle.aftr_engine.proofs.LogStops.{leaves_start, make_leaves, read_leaves}
 use Rattle.aftr_engine.proofs.Begins.{begins}
 use Rattle.egress_gate.proofs.NamesApart.{one_name_disjoint}
 use Rattle.aftr_engine.proofs.Firsts.{first_is, first_used, some_input}
@@ -143,9 +143,23 @@ returns-clause-stops g c = λ reads tells other.
     ]
 
 pub returns-clause-answers : goal.returns-clause-answers
-returns-clause-answers g c = λ was reads tells other onto start.
-    c.stops_are_answered.ensures defaults (at_first [] g.I.Source.rest c.args.inputs.now) (g.P.Plant.story c.args.plant.now)
-    _ was (returns-clause-stops g c reads tells other) onto start
+returns-clause-answers g c = λ was reads tells onto start.
+    let story = g.P.Plant.story c.args.plant.now in
+    let input = at_first [] g.I.Source.rest c.args.inputs.now in
+    c.stops_are_answered.ensures defaults input story _ was
+    (elim c.match-command_of.branch [
+      | in-Some-Init w ↦
+          rw w.plant-is (make_leaves defaults input story (g.P.Plant.story w.init-ended.new.plant) onto (w.init-ended.ensures.stops tells))
+      | in-Some-Run w ↦
+          returns-clause-stops g c reads tells (λ is. absurd (cc (is, c.command_of.ensures, w.in-Some-Run.is, w.in-Some-Run.field-0-is)))
+      | in-Some-Trace w ↦
+          returns-clause-stops g c reads tells
+          (λ is. absurd (cc (is, c.command_of.ensures, w.in-Some-Trace.is, w.in-Some-Trace.field-0-is)))
+      | in-Some-Leases w ↦
+          returns-clause-stops g c reads tells
+          (λ is. absurd (cc (is, c.command_of.ensures, w.in-Some-Leases.is, w.in-Some-Leases.field-0-is)))
+      | in-None w ↦ returns-clause-stops g c reads tells (λ is. absurd (cc (is, c.command_of.ensures, w.in-None.is)))
+    ]) onto start
 
 pub returns-clause-names : goal.returns-clause-names
 returns-clause-names g c = λ told records can.

@@ -21,3 +21,4 @@ returns-in-Err-Failed g c =
     (λ tells ok. absurd (cc (ok, c.early-in-Err-Failed.ensures.status)))
     (λ size tells is. absurd (cc (is, c.early-in-Err-Failed.ensures.status)))
     (λ tells. (at_end before after (MakeLeaves before) (c.make.ensures.stops tells) (content after) (content_is_image after)).nothing_sent)
+    c.make.ensures.stops
