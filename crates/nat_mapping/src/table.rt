@@ -1,11 +1,12 @@
 //! The rows of all mappings.
-ghost use Rattle.std.specs.Prelude.{◌≡◌, ◌≢◌, ◌<◌, ◌≤◌, ◌+◌, ◌-◌, ◌^◌, ◌||◌, ◌++◌, [], ◌∷◌, ℕ, Some, false, true, nat_lt, length, min, position, slice_get, IfNone, IfOk, IfSome, IsTrue, OnOk, OnErr};
+ghost use Rattle.std.specs.Prelude.{◌≡◌, ◌≢◌, ◌<◌, ◌≤◌, ◌+◌, ◌-◌, ◌^◌, ◌||◌, ◌++◌, [], ◌∷◌, ℕ, Some, false, true, nat_lt, length, min, position, take, slice_get, IfNone, IfOk, IfSome, IsTrue, OnOk, OnErr};
 ghost use Rattle.std.specs.List.{list_any};
 ghost use Rattle.nat_mapping.specs.declared.row.Row.{Row};
-ghost use Rattle.nat_mapping.specs.Rows.{KeepsSpares, are_apart, expired, has_key, has_peer_at, has_place, in_use, is_at, is_of, least_free, lies_in, mapping_of, peer_count, row_at, row_count, row_id, row_of, spare_at, touched_at};
+ghost use Rattle.nat_mapping.specs.Rows.{KeepsSpares, are_apart, expired, has_key, has_peer_at, has_place, holding_of, in_use, is_at, is_of, least_free, lies_in, mapping_of, peer_count, row_at, row_count, row_id, row_of, searched, spare_at, touched_at};
 
 use crate::ports;
 use crate::row::{Peer, Row, put_peer};
+use crate::search::{self, Holding, Search};
 use aftr_base::{Ext, InnerKey, Ip4, Moment, NoMemory, Proto, Subscriber};
 use std::alloc::Global;
 use std::marker::Model;
@@ -53,6 +54,26 @@ impl Table {
         ensures apart { are_apart self.now.rows ≡ true }
     {
         out_at(&self.rows, key).map(RowId)
+    }
+
+    /// Looks for the row of an inner key, and counts on the way what an owner has. No row behind the key's is visited.
+    pub fn search(&self, key: &InnerKey, owner: Subscriber) -> Search
+        ensures found { result.row ≡ row_of key.now self.now.rows }
+        ensures before { result.before ≡ holding_of owner (searched result.row self.now.rows) }
+        ensures live { IfSome result.row (λ id. id.0 < length self.now.rows) }
+        ensures unused { IfNone result.row (has_key key.now self.now.rows ≡ false) }
+    {
+        search::search_in(&self.rows, key, owner)
+    }
+
+    /// What an owner has in all rows, where it has this much in those before that one. Only rows from that one on are
+    /// visited.
+    pub fn holding_from(&self, owner: Subscriber, from: RowId, before: Holding) -> Holding
+        requires within { from.0 ≤ length self.now.rows }
+        requires before { before ≡ holding_of owner (take from.0 self.now.rows) }
+        ensures { result ≡ holding_of owner self.now.rows }
+    {
+        search::holding_from(&self.rows, owner, from, before)
     }
 
     /// Where the row of an external place stands. None says that the place is unused.

@@ -17,6 +17,8 @@ mod faults;
 #[cfg(test)]
 mod first_path;
 #[cfg(test)]
+mod grants;
+#[cfg(test)]
 mod logs;
 #[cfg(test)]
 mod making;

@@ -69,8 +69,8 @@ impl Many {
             20010db801{subscriber:04x}000000000000000000 38 c000{low:04x} {first:04x} {last:04x}"
         );
         let record = record.expect(rt, "memory for a record");
-        let horizon = match subscriber {
-            0 => Some("00000000000f4240 00000000000f4a10"),
+        let horizon = match (subscriber, first) {
+            (0, 1024) => Some("00000000000f4240 00000000000f4a10"),
             _ => None,
         };
         self.log.add(
@@ -110,9 +110,8 @@ fn add_blocks<R: Abort + AllocGlobal>(rt: &R, many: &mut Many, addr: u16)
 }
 
 static PORTS: Case<'static> = Case {
-    name: "one port too many",
-    report: "records 514\nsent 513\nmarks 0\ndrop QuotaBlocks 1\n",
-    drops: &[(DropCause::QuotaBlocks, 1)],
+    name: "one port more than a block has",
+    report: "records 514\nsent 514\nmarks 0\n",
     ..RUN
 };
 
@@ -124,7 +123,7 @@ static BLOCKS: Case<'static> = Case {
 };
 
 #[test]
-fn a_subscriber_has_512_ports(rt: HostRuntime) {
+fn a_block_has_512_ports(rt: HostRuntime) {
     let mut many = Many::new(&rt);
     many.add_block(&rt, 0, 0, 1024);
     for port in 5000..5512 {
@@ -133,8 +132,10 @@ fn a_subscriber_has_512_ports(rt: HostRuntime) {
     for port in 1024..1536 {
         many.add_sent(&rt, 0, port);
     }
-    // One port too many, and then the last one again, which keeps its place.
+    // One port more opens a further block, and then the last one again keeps its place.
     many.add_packet(&rt, 0, 5512);
+    many.add_block(&rt, 0, 0, 1536);
+    many.add_sent(&rt, 0, 1536);
     many.add_packet(&rt, 0, 5511);
     many.add_sent(&rt, 0, 1535);
     check_many(&rt, &PORTS, many);

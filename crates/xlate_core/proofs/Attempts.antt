@@ -1,5 +1,5 @@
 -- What is known where steps that may be refused gave something.
-use Rattle.std.proofs.Common.{◌≡◌, Bool, true, false, Option, Some, None, Result, Ok, Err, ok_or, refl}
+use Rattle.std.proofs.Common.{◌≡◌, Bool, true, false, Option, Some, None, Result, Ok, Err, ok_or, refl, ap}
 use Rattle.std.specs.Result.{OnOk, OnErr}
 use Rattle.aftr_base.specs.Attempt.{◌>>=◌, ◌>>◌, require, refused_as}
 
@@ -24,6 +24,14 @@ was_there None e y h = cc
 
 pub ok_inj : {A E : Type 0} (x y : A) (r : Result A E) → r ≡ Ok x → r ≡ Ok y → x ≡ y
 ok_inj x y r h k = cc
+
+-- and what steps give that aren't refused
+pub went : {B E : Type 0} (b : Bool) (e : E) (r : Result B E) → b ≡ true → (require b e >> r) ≡ r
+went true e r h = refl
+went false e r h = cc
+
+pub gave : {A B E : Type 0} (r : Result A E) (f : A → Result B E) (x : A) → r ≡ Ok x → (r >>= f) ≡ f x
+gave r f x h = ap (λ (q : Result _ _). q >>= f) h
 
 -- either answer of a call
 pub either_way : {A E P Q R : Type 0} (r : Result A E) → (P → R) → (Q → R) → OnOk r P → OnErr r Q → R

@@ -1,7 +1,7 @@
 -- The clock: a moment that isn't past it changes nothing, and another raises it.
 use Rattle.std.proofs.Common.{◌≡◌, ℕ, ◌<◌, ◌≤◌, Bool, true, false, cond, [], max, nat_le, refl, ap, arith}
 use Rattle.std.proofs.lemmas.Bool.{leb-true, leb-false, le-leb, lt-leb}
-use Rattle.xlate_core.specs.nat_mapping.Rows.{expired}
+use Rattle.nat_mapping.specs.Rows.{expired}
 use Rattle.xlate_core.specs.Expiry.{Closed, at_moment, leases_ended}
 use Rattle.xlate_core.specs.State.{State}
 

@@ -8,17 +8,15 @@ use Rattle.aftr_base.specs.declared.event.Event.{Event}
 use Rattle.aftr_base.specs.declared.event.EventKind.{EventKind}
 use Rattle.aftr_base.specs.declared.row.LeaseRow.{LeaseRow}
 use Rattle.aftr_base.specs.declared.told.Told.{Told}
-use Rattle.aftr_base.specs.declared.value.InnerKey.{InnerKey}
-use Rattle.aftr_base.specs.declared.value.Ip4.{Ip4}
 use Rattle.aftr_base.specs.declared.value.Moment.{Moment}
 use Rattle.aftr_base.proofs.Pairwise.{pairs_zip}
 use Rattle.cfg_text.specs.Accepted.{is_accepted}
 use Rattle.cfg_text.specs.declared.config.Config.{Config}
 use Rattle.cfg_text.proofs.Facts.{facts}
 use Rattle.xlate_core.specs.declared.grant.Grant.{Grant}
-use Rattle.xlate_core.specs.declared.grant.Sender.{Sender}
-use Rattle.xlate_core.specs.declared.nat_mapping.Row.{Row}
-use Rattle.xlate_core.specs.nat_mapping.Rows.{expired}
+use Rattle.xlate_core.specs.declared.grant.Flow.{Flow}
+use Rattle.nat_mapping.specs.Rows.{Mapping}
+use Rattle.nat_mapping.specs.Rows.{expired}
 use Rattle.xlate_core.specs.Expiry.{Closed, at_moment, closing_limit, with_idle_ended}
 use Rattle.xlate_core.specs.State.{State, Step}
 use Rattle.xlate_core.specs.Step.{step, treatment}
@@ -28,7 +26,7 @@ use Rattle.xlate_core.proofs.Clock.{by_moment}
 use Rattle.xlate_core.proofs.Reached.{reached_from}
 use Rattle.xlate_core.proofs.Treatments.{by_way}
 use Rattle.xlate_core.proofs.ValidExpiry.{Idle, Lasts, MayEnd, idle_end, idle_open, lasts_at}
-use Rattle.xlate_core.proofs.ValidForwards.{lease_of}
+use Rattle.xlate_core.proofs.ValidForwards.{chosen_for, lease_of}
 use Rattle.xlate_core.proofs.ValidGrants.{GrantCase, IsGrant, Keeps, Opens, Takes, grant_case, no_clash}
 use Rattle.xlate_core.proofs.ValidStates.{grant_out, moment_accepted, step_accepted}
 
@@ -47,7 +45,7 @@ sooner_back shares lasts at (Some m) none h = cc
 sooner_back true lasts at None none h = cc
 sooner_back false lasts at None none h = refl
 
-clash_ended : {now : ℕ} {rows : List Row} {l u : LeaseRow} (m : LeaseRow) → MayEnd now rows l u → clash l m ≡ false → clash u m ≡ false
+clash_ended : {now : ℕ} {rows : List Mapping} {l u : LeaseRow} (m : LeaseRow) → MayEnd now rows l u → clash l m ≡ false → clash u m ≡ false
 clash_ended m (Lasts same) h = subst (λ (x : LeaseRow). clash x m ≡ false) (sym same) h
 clash_ended {now = now} {rows = rows} {l = l} m (Idle idle e) h =
     let over = overlaps l m.addr m.first m.last in
@@ -55,7 +53,7 @@ clash_ended {now = now} {rows = rows} {l = l} m (Idle idle e) h =
     subst (λ (x : LeaseRow). clash x m ≡ false) (sym e)
     (sooner over (lasts_to l.since.0 m) (lasts_to m.since.0 u) m.since.0 l.until (idle_open rows l idle) h)
 
-clash_behind : {now : ℕ} {rows : List Row} {m v : LeaseRow} (l : LeaseRow) → MayEnd now rows m v → clash l m ≡ false → clash l v ≡ false
+clash_behind : {now : ℕ} {rows : List Mapping} {m v : LeaseRow} (l : LeaseRow) → MayEnd now rows m v → clash l m ≡ false → clash l v ≡ false
 clash_behind l (Lasts same) h = subst (λ (x : LeaseRow). clash l x ≡ false) (sym same) h
 clash_behind {now = now} {rows = rows} {m = m} l (Idle idle e) h =
     let shares = overlaps l m.addr m.first m.last && lasts_to m.since.0 l in
@@ -63,7 +61,7 @@ clash_behind {now = now} {rows = rows} {m = m} l (Idle idle e) h =
     subst (λ (x : LeaseRow). clash l x ≡ false) (sym e)
     (sooner_back shares (lasts_to l.since.0 v) l.since.0 m.until (idle_open rows m idle) h)
 
-apart_later : (now : ℕ) (rows : List Row) (l m u v : LeaseRow) → MayEnd now rows l u → MayEnd now rows m v
+apart_later : (now : ℕ) (rows : List Mapping) (l m u v : LeaseRow) → MayEnd now rows l u → MayEnd now rows m v
     → clash l m ≡ false → clash u v ≡ false
 apart_later now rows l m u v z w h = clash_behind u w (clash_ended m z h)
 
@@ -83,20 +81,19 @@ disjoint_moment at s h =
 abbrev leases_after : State → Grant → List LeaseRow
 leases_after s g = s.leases ++ option_to_list g.lease
 
-disjoint_case : (s : State) (who : Sender) (key : InnerKey) (g : Grant) → is_accepted s.config ≡ true → AreDisjoint s.leases
-    → GrantCase s who key g → AreDisjoint (leases_after s g)
-disjoint_case s who key g ok h (Keeps r found same) =
+disjoint_case : (s : State) (f : Flow) (g : Grant) → is_accepted s.config ≡ true → AreDisjoint s.leases → GrantCase s f g
+    → AreDisjoint (leases_after s g)
+disjoint_case s f g ok h (Keeps r found same) =
     subst (λ (x : Grant). AreDisjoint (leases_after s x)) (sym same) (subst AreDisjoint (sym (append-nil s.leases)) h)
-disjoint_case s who key g ok h (Takes x none taken same) =
+disjoint_case s f g ok h (Takes x none taken same) =
     subst (λ (y : Grant). AreDisjoint (leases_after s y)) (sym same) (subst AreDisjoint (sym (append-nil s.leases)) h)
-disjoint_case s who key g ok h (Opens b none free same) =
-    let apart = no_clash s who.owner b (omega (arith, (facts s.config ok).hold_least)) free in
+disjoint_case s f g ok h (Opens b none free same) =
+    let apart = no_clash s f.who.owner b (omega (arith, (facts s.config ok).hold_least)) (chosen_for s f b ok free) in
     subst (λ (x : Grant). AreDisjoint (leases_after s x)) (sym same)
-    (all_pairs_push (λ l m. clash l m ≡ false) s.leases (lease_of s who.owner b) h apart)
+    (all_pairs_push (λ l m. clash l m ≡ false) s.leases (lease_of s f.who.owner b) h apart)
 
-disjoint_grant : {s : State} {who : Sender} {key : InnerKey} {remote : Ip4} {g : Grant} → IsGrant s who key remote g
-    → AreDisjoint s.leases → AreDisjoint (leases_after s g)
-disjoint_grant {s = s} {who = who} {key = key} {g = g} by h = disjoint_case s who key g by.accepted h (grant_case by)
+disjoint_grant : {s : State} {f : Flow} {g : Grant} → IsGrant s f g → AreDisjoint s.leases → AreDisjoint (leases_after s g)
+disjoint_grant {s = s} {f = f} {g = g} by h = disjoint_case s f g by.accepted h (grant_case by)
 
 disjoint_treated : (s : State) (bytes : List ℕ) (kind : EventKind) → is_accepted s.config ≡ true → AreDisjoint s.leases
     → AreDisjoint (treatment s kind bytes).state.leases

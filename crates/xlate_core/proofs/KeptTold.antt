@@ -15,8 +15,8 @@ use Rattle.aftr_base.specs.declared.value.Moment.{Moment}
 use Rattle.aftr_base.proofs.Pairwise.{all_zip}
 use Rattle.cfg_text.specs.Accepted.{is_accepted}
 use Rattle.cfg_text.specs.declared.config.Config.{Config}
-use Rattle.xlate_core.specs.declared.nat_mapping.Row.{Row}
-use Rattle.xlate_core.specs.nat_mapping.Rows.{expired}
+use Rattle.nat_mapping.specs.Rows.{Mapping}
+use Rattle.nat_mapping.specs.Rows.{expired}
 use Rattle.xlate_core.specs.Expiry.{Closed, at_moment, closing_limit, with_idle_ended}
 use Rattle.xlate_core.specs.State.{State, Step}
 use Rattle.xlate_core.specs.Step.{step, treatment}
@@ -35,11 +35,11 @@ use Rattle.xlate_core.proofs.Zips.{zip_parts}
 abbrev HasEnded : LeaseRow → Type 0
 HasEnded l = is_open l ≡ false
 
-ended_stays : {now : ℕ} {rows : List Row} {l m : LeaseRow} → MayEnd now rows l m → HasEnded l → m ≡ l
+ended_stays : {now : ℕ} {rows : List Mapping} {l m : LeaseRow} → MayEnd now rows l m → HasEnded l → m ≡ l
 ended_stays (Lasts same) h = same
 ended_stays {rows = rows} {l = l} (Idle idle e) h = absurd (true≢false (sym (idle_open rows l idle) ∙ h))
 
-all_stay : (now : ℕ) (rows : List Row) (ls ms : List LeaseRow) → AllZip (MayEnd now rows) ls ms → All HasEnded ls → ms ≡ ls
+all_stay : (now : ℕ) (rows : List Mapping) (ls ms : List LeaseRow) → AllZip (MayEnd now rows) ls ms → All HasEnded ls → ms ≡ ls
 all_stay now rows [] [] z h = refl
 all_stay now rows [] (m ∷ ms) z h = absurd z
 all_stay now rows (l ∷ ls) [] z h = absurd z
@@ -57,11 +57,11 @@ record StandFirst (told : List LeaseRow) (end : ℕ) (leases : List LeaseRow) : 
   whole : leases ≡ told ++ opened
   later : All (BeganPast end) opened
 
-same_begin : {now : ℕ} {rows : List Row} {l m : LeaseRow} (end : ℕ) → MayEnd now rows l m → BeganPast end l → BeganPast end m
+same_begin : {now : ℕ} {rows : List Mapping} {l m : LeaseRow} (end : ℕ) → MayEnd now rows l m → BeganPast end l → BeganPast end m
 same_begin end (Lasts same) h = subst (BeganPast end) (sym same) h
 same_begin end (Idle idle e) h = subst (BeganPast end) (sym e) h
 
-first_ended : {told leases : List LeaseRow} {end : ℕ} (now : ℕ) (rows : List Row) → All HasEnded told → StandFirst told end leases
+first_ended : {told leases : List LeaseRow} {end : ℕ} (now : ℕ) (rows : List Mapping) → All HasEnded told → StandFirst told end leases
     → StandFirst told end (with_idle_ended closing_limit now rows leases)
 first_ended {told = told} {leases = leases} {end = end} now rows ended h =
     let Z = MayEnd now rows in

@@ -11,8 +11,8 @@ use Rattle.aftr_base.specs.declared.row.LeaseRow.{LeaseRow}
 use Rattle.aftr_base.specs.declared.value.Moment.{Moment}
 use Rattle.aftr_base.proofs.Pairwise.{zip_same, all_zip}
 use Rattle.cfg_text.specs.Accepted.{is_accepted}
-use Rattle.xlate_core.specs.declared.nat_mapping.Row.{Row}
-use Rattle.xlate_core.specs.nat_mapping.Rows.{expired}
+use Rattle.nat_mapping.specs.Rows.{Mapping}
+use Rattle.nat_mapping.specs.Rows.{expired}
 use Rattle.xlate_core.specs.Expiry.{Closed, at_moment, closing_limit, leases_ended, with_idle_ended}
 use Rattle.xlate_core.specs.State.{State, Step}
 use Rattle.xlate_core.specs.Step.{step}
@@ -111,7 +111,7 @@ later_at {s = s} {t = t} i d later lt =
 
 -- ---- as the clock is raised
 
-later_end : (from now : ℕ) (rows : List Row) (l m : LeaseRow) → from < now → MayEnd now rows l m → Later from now l m
+later_end : (from now : ℕ) (rows : List Mapping) (l m : LeaseRow) → from < now → MayEnd now rows l m → Later from now l m
 later_end from now rows l m lt (Lasts same) = Stays same
 later_end from now rows l m lt (Idle idle same) = Ends now (idle_open rows l idle) lt (omega arith) same
 

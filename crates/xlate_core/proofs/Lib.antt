@@ -2,7 +2,6 @@ pub mod Attempts
 pub mod Clock
 pub mod Closings
 pub mod Datagrams
-pub mod Deadlines
 pub mod Disjoint
 pub mod Holders
 pub mod IdleLeases
@@ -14,15 +13,15 @@ pub mod Middles
 pub mod Openings
 pub mod PacketSources
 pub mod Packets
-pub mod Peers
+pub mod Passed
 pub mod Positions
 pub mod Reached
 pub mod Runs
 pub mod Sending
+pub mod Settings
 pub mod SoleItems
 pub mod Tellings
 pub mod Treatments
-pub mod Usages
 pub mod ValidExpiry
 pub mod ValidForwards
 pub mod ValidGrants

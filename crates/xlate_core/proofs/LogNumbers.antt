@@ -1,5 +1,5 @@
 -- The numbers of leases and of log events fit the fields of the log.
-use Rattle.std.proofs.Common.{◌≡◌, ℕ, ◌+◌, ◌^◌, ◌<◌, ◌≤◌, Bool, true, false, List, [], ◌∷◌, map, take, filter, Option, Some, None, IfSome}
+use Rattle.std.proofs.Common.{◌≡◌, ℕ, ◌+◌, ◌^◌, ◌<◌, ◌≤◌, Bool, true, false, List, [], ◌∷◌, ◌++◌, map, take, filter, Option, Some, None, IfSome}
 use Rattle.std.proofs.Common.{All}
 use Rattle.std.proofs.Common.{nat_le, sym, subst, arith}
 use Rattle.std.specs.Prelude.{option_to_list}
@@ -19,20 +19,20 @@ use Rattle.aftr_base.specs.declared.told.Told.{Told}
 use Rattle.cfg_text.proofs.Facts.{facts}
 use Rattle.cfg_text.specs.declared.config.Config.{Config}
 use Rattle.cfg_text.specs.Accepted.{is_accepted}
-use Rattle.xlate_core.specs.declared.nat_mapping.Row.{Row}
-use Rattle.xlate_core.specs.nat_mapping.Rows.{expired}
+use Rattle.nat_mapping.specs.Rows.{Mapping}
+use Rattle.nat_mapping.specs.Rows.{expired}
 use Rattle.xlate_core.specs.Expiry.{Closed, is_idle, closings_of, closing_limit, at_moment}
 use Rattle.aftr_base.specs.Row.{block_event}
-use Rattle.xlate_core.specs.State.{State, latest, reach_of}
+use Rattle.xlate_core.specs.State.{State, Step, latest, reach_of}
 use Rattle.xlate_core.specs.Step.{step, log_of, needs_horizon, promise_by}
 use Rattle.xlate_core.specs.Valid.{IsStart, is_lease_by}
 use Rattle.xlate_core.specs.Run.{run, start}
-use Rattle.xlate_core.proofs.Openings.{before_of, opens_step, own_of}
+use Rattle.xlate_core.proofs.Openings.{Opens, before_of, opens_step, own_of}
 use Rattle.xlate_core.proofs.Runs.{step_closings}
 use Rattle.xlate_core.proofs.ValidExpiry.{lease_parts, lease_since, ends_by}
 use Rattle.xlate_core.proofs.ValidStates.{AreBy, moment_accepted, run_clock_most, run_floor, step_clock_most}
 use Rattle.xlate_core.proofs.Clock.{by_moment, moment_clock}
-use Rattle.xlate_core.proofs.WirePlaces.{IsNew, IsOnWire}
+use Rattle.xlate_core.proofs.WirePlaces.{IsOnWire, wire_moment, wire_treated}
 use Rattle.xlate_core.proofs.Reached.{IsReached, reached_from, reached_start, reached_step}
 
 -- ---- leases
@@ -118,7 +118,7 @@ events_fit limit opens now ls le wire =
     All-map (FitsEvent limit) (block_event opens now) ls
     (All-weaker IsOnWire (λ l. FitsEvent limit (block_event opens now l)) (λ l h. event_fits limit opens now l le h) ls wire)
 
-closings_fit : (limit n now : ℕ) (rows : List Row) (ls : List LeaseRow) → now ≤ limit → All IsOnWire ls
+closings_fit : (limit n now : ℕ) (rows : List Mapping) (ls : List LeaseRow) → now ≤ limit → All IsOnWire ls
     → All (FitsEvent limit) (closings_of n now rows ls)
 closings_fit limit n now rows ls le wire =
     let idle = filter (is_idle rows) ls in
@@ -129,10 +129,18 @@ closed_fit limit at s le wire =
     by_moment (λ (c : Closed). All (FitsEvent limit) c.closings) at s (λ early. All-nil (FitsEvent limit))
     (λ late. closings_fit limit closing_limit at (expired at s.rows) s.leases le wire)
 
-opening_fits : (limit now : ℕ) (o : Option LeaseRow) → now ≤ limit → IfSome o (IsNew now)
-    → All (FitsEvent limit) (map (block_event true now) (option_to_list o))
-opening_fits limit now None le new = All-nil (FitsEvent limit)
-opening_fits limit now (Some l) le new = events_fit limit true now (l ∷ []) le (All-cons IsOnWire l [] new.fits (All-nil IsOnWire))
+-- those behind others
+behind : (xs ys : List LeaseRow) → All IsOnWire (xs ++ ys) → All IsOnWire ys
+behind [] ys h = h
+behind (x ∷ xs) ys h = behind xs ys (All-tail IsOnWire x (xs ++ ys) h)
+
+-- the lease that a record opens fits, since those after it do
+opening_fits : (limit : ℕ) (s : State) (t : Step) → s.clock ≤ limit → (opens : Opens s t) → All IsOnWire t.state.leases
+    → All (FitsEvent limit) t.openings
+opening_fits limit s t le opens wire =
+    let more = option_to_list opens.lease in
+    subst (All (FitsEvent limit)) (sym opens.openings)
+    (events_fit limit true s.clock more le (behind s.leases more (subst (All IsOnWire) opens.leases wire)))
 
 promise_fits : (limit : ℕ) (raised : Bool) (s : State) → is_accepted s.config ≡ true → s.clock ≤ limit
     → All (FitsEvent limit) (promise_by raised s)
@@ -151,8 +159,9 @@ log_step limit s e h le at =
     let by : now ≤ limit = omega (arith, moment_clock e.at.0 s, le, at) in
     let opens = opens_step s e h.accepted in
     let closed = subst (All (FitsEvent limit)) (sym (step_closings s e)) (closed_fit limit e.at.0 s at h.wire) in
-    let opened = subst (All (FitsEvent limit)) (sym opens.openings) (opening_fits limit now opens.lease by opens.new) in
     let own = own_of s e in
+    let wire = wire_treated (before_of s e) e.bytes e.kind (moment_accepted e.at.0 s h.accepted) (wire_moment e.at.0 s h.wire) in
+    let opened = opening_fits limit (before_of s e) own by opens wire in
     let ok = subst (λ (c : Config). is_accepted c ≡ true) (sym opens.config) (moment_accepted e.at.0 s h.accepted) in
     let promised = promise_fits limit (needs_horizon own) own.state ok (omega (arith, opens.clock, by)) in
     All-append (FitsEvent limit) t.closings t.openings closed

@@ -23,7 +23,7 @@ use Rattle.cfg_text.specs.declared.config.Config.{Config}
 use Rattle.cfg_text.specs.Accepted.{is_accepted}
 use Rattle.cfg_text.proofs.Facts.{facts}
 use Rattle.xlate_core.specs.declared.step_out.Item.{Item}
-use Rattle.xlate_core.specs.nat_mapping.Rows.{expired}
+use Rattle.nat_mapping.specs.Rows.{expired}
 use Rattle.xlate_core.specs.State.{State, Step, is_past_horizon, latest, reach_of}
 use Rattle.xlate_core.specs.Expiry.{Closed, at_moment, closing_limit}
 use Rattle.xlate_core.specs.Step.{horizon_by, log_of, needs_horizon, promise_by, step}
@@ -188,8 +188,8 @@ openable_by {s = s} {t = t} opens told le v same far (Some l) e =
     let asks = or_right (list_any (λ (i : Item). is_some i.owner) t.items) (nat_lt 0 (length t.openings)) one in
     record {
       limit = le;
-      owner = new.fits.owner;
-      range = new.fits.range;
+      owner = new.owner;
+      range = new.range;
       since = new.since;
       until = new.until;
       ahead = omega (arith, ahead t asks, opens.clock, ap (λ (m : Moment). m.0) far);

@@ -5,7 +5,7 @@ use Rattle.aftr_base.specs.declared.event.Event.{Event}
 use Rattle.aftr_base.specs.declared.event.EventKind.{EventKind}
 use Rattle.cfg_text.specs.Accepted.{is_accepted}
 use Rattle.cfg_text.proofs.Facts.{facts}
-use Rattle.xlate_core.specs.declared.nat_mapping.Row.{Row}
+use Rattle.nat_mapping.specs.Rows.{Mapping}
 use Rattle.xlate_core.specs.declared.grant.Grant.{Grant}
 use Rattle.xlate_core.specs.declared.step_out.Item.{Item}
 use Rattle.xlate_core.specs.State.{State, Step}
@@ -32,7 +32,7 @@ length_out {got = got} {g = g} by =
     let is = sent_outward by in
     omega (arith, length_translated true g.place got.datagram is.whole, is.fits)
 
-pub length_in : {s : State} {bytes : List ℕ} {d : Datagram} {row : Row} → IsIn s bytes d row
+pub length_in : {s : State} {bytes : List ℕ} {d : Datagram} {row : Mapping} → IsIn s bytes d row
     → length (delivered_bytes s d row) ≤ s.config.softwire_mtu
 length_in {s = s} {bytes = bytes} {d = d} {row = row} by =
     let is = is_inward s.config bytes d by.admits in

@@ -1,23 +1,23 @@
 -- The row that a search found, by its place in the table.
-use Rattle.std.proofs.Common.{◌≡◌, ltb, ◌++◌, ℕ, suc, ◌+◌, ◌<◌, ◌≤◌, Bool, true, false, not, cond, List, [], ◌∷◌, length, Option, Some}
+use Rattle.std.proofs.Common.{◌≡◌, ltb, ℕ, suc, ◌+◌, ◌<◌, ◌≤◌, Bool, true, false, not, cond, List, [], ◌∷◌, length, Option, Some}
 use Rattle.std.proofs.Common.{None, find, option_map, refl, sym, ap, ◌∙◌, subst, inl, inr, arith}
-use Rattle.std.specs.Prelude.{Result, if◌then◌else◌, slice_get, is_some}
+use Rattle.std.specs.Prelude.{Result, if◌then◌else◌, slice_get}
 use Rattle.std.specs.List.{position, position_or_len}
 use Rattle.std.proofs.lemmas.List.Folds.{find_at}
 use Rattle.std.proofs.lemmas.Option.{slice_get_cases}
-use Rattle.aftr_base.specs.declared.value.Ip4.{Ip4}
 use Rattle.aftr_base.specs.declared.value.Ext.{Ext}
 use Rattle.aftr_base.specs.declared.value.InnerKey.{InnerKey}
 use Rattle.aftr_base.specs.declared.value.Proto.{Proto}
 use Rattle.aftr_base.specs.declared.event.DropCause.{DropCause}
-use Rattle.xlate_core.specs.declared.nat_mapping.Row.{Row}
-use Rattle.xlate_core.specs.declared.nat_mapping.RowId.{RowId}
-use Rattle.xlate_core.specs.declared.nat_mapping.Peer.{Peer}
+use Rattle.nat_mapping.specs.Rows.{Mapping}
+use Rattle.nat_mapping.specs.declared.table.RowId.{RowId}
+use Rattle.nat_mapping.specs.declared.row.Peer.{Peer}
 use Rattle.xlate_core.specs.declared.grant.Grant.{Grant}
-use Rattle.xlate_core.specs.declared.grant.Sender.{Sender}
-use Rattle.xlate_core.specs.nat_mapping.Rows.{row_id, row_of, row_at, is_of, is_at, find_out, find_in, with_peer, touched}
-use Rattle.xlate_core.specs.nat_mapping.Rows.{touched_at}
-use Rattle.xlate_core.specs.Grant.{kept_place, place_for, granted, peer_of, row_for, rows_after, after_row}
+use Rattle.xlate_core.specs.declared.grant.Flow.{Flow}
+use Rattle.nat_mapping.specs.Rows.{row_id, row_of, row_at, is_of, is_at, with_peer}
+use Rattle.xlate_core.specs.Rows.{find_out, find_in, touched}
+use Rattle.nat_mapping.specs.Rows.{touched_at}
+use Rattle.xlate_core.specs.Grant.{granted, kept_place, place_for}
 use Rattle.xlate_core.specs.State.{State}
 use Rattle.std.proofs.lemmas.Bool.{ltb-true, ltb-false}
 use Rattle.aftr_base.proofs.Founds.{some_inj, mapped_some}
@@ -53,15 +53,15 @@ no_item p xs h = find_at p xs ∙ past_end xs (position_or_len p xs) (ltb-false 
 
 -- ---- the row that is touched
 
-touched_by : (key : InnerKey) (peer : Peer) (r : Row) (rows : List Row) (n : ℕ) (b : Bool) → touched_at n peer rows ≡ touched key peer rows
+touched_by : (key : InnerKey) (peer : Peer) (r : Mapping) (rows : List Mapping) (n : ℕ) (b : Bool) → touched_at n peer rows ≡ touched key peer rows
     → touched_at (cond (not b) (1 + n) 0) peer (r ∷ rows)
     ≡ (if b then record r { peers = with_peer peer r.peers } ∷ rows else r ∷ touched key peer rows)
 touched_by key peer r rows n true h = refl
 touched_by key peer r rows n false h =
     let next : 1 + n ≡ suc n = omega arith in
-    ap (λ (m : ℕ). touched_at m peer (r ∷ rows)) next ∙ ap (λ (rs : List Row). r ∷ rs) h
+    ap (λ (m : ℕ). touched_at m peer (r ∷ rows)) next ∙ ap (λ (rs : List Mapping). r ∷ rs) h
 
-touched_first : (key : InnerKey) (peer : Peer) (rows : List Row)
+touched_first : (key : InnerKey) (peer : Peer) (rows : List Mapping)
     → touched_at (position_or_len (is_of key) rows) peer rows ≡ touched key peer rows
 touched_first key peer [] = refl
 touched_first key peer (r ∷ rows) = touched_by key peer r rows (position_or_len (is_of key) rows) (is_of key r)
@@ -76,53 +76,40 @@ pub no_place : (o : Option ℕ) → None ≡ option_map row_id o → o ≡ None
 no_place None h = refl
 no_place (Some n) h = cc
 
-abbrev by_row : State → Sender → InnerKey → Ip4 → Option Row → Result Grant DropCause
-by_row s who key remote o = elim o [
-  | Some r ↦ kept_place s who remote r
-  | None ↦ place_for s who key.proto
-]
+abbrev by_row : State → Flow → Option Mapping → Result Grant DropCause
+by_row s f o = elim o [ Some r ↦ kept_place s f r | None ↦ place_for s f ]
 
-pub granted_there : (s : State) (who : Sender) (key : InnerKey) (remote : Ip4) (id : RowId) (r : Row)
-    → Some id ≡ row_of key s.rows → slice_get s.rows id.0 ≡ Some r
-    → kept_place s who remote r ≡ granted s who key remote
-granted_there s who key remote id r found here =
-    let row = item_there (is_of key) s.rows id.0 (place_of (position (is_of key) s.rows) id found) in
-    sym (ap (by_row s who key remote) (row ∙ here))
-
-pub granted_anew : (s : State) (who : Sender) (key : InnerKey) (remote : Ip4) → None ≡ row_of key s.rows
-    → place_for s who key.proto ≡ granted s who key remote
-granted_anew s who key remote none = sym
-    (ap (by_row s who key remote) (no_item (is_of key) s.rows (no_place (position (is_of key) s.rows) none)))
-
-pub kept_there : (who : Sender) (key : InnerKey) (peer : Peer) (ext : Ext) (rows : List Row) (id : RowId) → Some id ≡ row_of key rows
-    → touched_at id.0 peer rows ≡ rows_after who key peer ext rows
-kept_there who key peer ext rows id found =
+-- the row that stands there
+pub found_row : (key : InnerKey) (rows : List Mapping) (id : RowId) → Some id ≡ row_of key rows
+    → (r : Mapping) × (id.0 < length rows) × (slice_get rows id.0 ≡ Some r) × (find_out key rows ≡ Some r)
+found_row key rows id found =
     let at = place_of (position (is_of key) rows) id found in
     let (r, lt, here) = item_at rows id.0 (in_range (is_of key) rows id.0 at) in
-    let some : is_some (find_out key rows) ≡ true = ap (λ (o : Option Row). is_some o) (item_there (is_of key) rows id.0 at ∙ here) in
-    let first : touched_at id.0 peer rows ≡ touched key peer rows =
+    (r, lt, here, item_there (is_of key) rows id.0 at ∙ here)
+
+pub unfound : (key : InnerKey) (rows : List Mapping) → None ≡ row_of key rows → find_out key rows ≡ None
+unfound key rows none = no_item (is_of key) rows (no_place (position (is_of key) rows) none)
+
+pub granted_there : (s : State) (f : Flow) (id : RowId) (r : Mapping) → Some id ≡ row_of f.key s.rows → slice_get s.rows id.0 ≡ Some r
+    → kept_place s f r ≡ granted s f
+granted_there s f id r found here =
+    let row = item_there (is_of f.key) s.rows id.0 (place_of (position (is_of f.key) s.rows) id found) in
+    sym (ap (by_row s f) (row ∙ here))
+
+pub granted_anew : (s : State) (f : Flow) → None ≡ row_of f.key s.rows → place_for s f ≡ granted s f
+granted_anew s f none = sym (ap (by_row s f) (unfound f.key s.rows none))
+
+pub touched_there : (key : InnerKey) (peer : Peer) (rows : List Mapping) (id : RowId) → Some id ≡ row_of key rows
+    → touched_at id.0 peer rows ≡ touched key peer rows
+touched_there key peer rows id found =
+    let at = place_of (position (is_of key) rows) id found in
     ap (λ (n : ℕ). touched_at n peer rows) (sym (in_list rows _ (position_or_len (is_of key) rows) id.0 at))
-    ∙ touched_first key peer rows in
-    first ∙ sym (ap (λ (b : Bool). if b then touched key peer rows else rows ++ row_for who key peer ext ∷ []) some)
+    ∙ touched_first key peer rows
 
-pub kept_anew : (who : Sender) (key : InnerKey) (peer : Peer) (ext : Ext) (rows : List Row) → None ≡ row_of key rows
-    → rows ++ row_for who key peer ext ∷ [] ≡ rows_after who key peer ext rows
-kept_anew who key peer ext rows none =
-    let nobody : is_some (find_out key rows) ≡ false = ap (λ (o : Option Row). is_some o)
-    (no_item (is_of key) rows (no_place (position (is_of key) rows) none)) in
-    sym (ap (λ (b : Bool). if b then touched key peer rows else rows ++ row_for who key peer ext ∷ []) nobody)
-
-pub after_row_is : (who : Sender) (key : InnerKey) (remote : Ip4) (ext : Ext) (x s : State) (rows : List Row) → x ≡ s
-    → rows ≡ rows_after who key (peer_of s remote) ext s.rows
-    → (let y : State = record x { rows = rows } in y ≡ after_row who key remote ext s)
-after_row_is who key remote ext x s rows same put =
-    ap (λ (y : State). let z : State = record y { rows = rows } in z) same
-    ∙ ap (λ (rs : List Row). let z : State = record s { rows = rs } in z) put
-
-pub found_there : (proto : Proto) (ext : Ext) (rows : List Row) (id : RowId) (r : Row) → Some id ≡ row_at proto ext rows
+pub found_there : (proto : Proto) (ext : Ext) (rows : List Mapping) (id : RowId) (r : Mapping) → Some id ≡ row_at proto ext rows
     → slice_get rows id.0 ≡ Some r → Some r ≡ find_in proto ext rows
 found_there proto ext rows id r found here = sym
     (item_there (is_at proto ext) rows id.0 (place_of (position (is_at proto ext) rows) id found) ∙ here)
 
-pub found_none : (proto : Proto) (ext : Ext) (rows : List Row) → None ≡ row_at proto ext rows → None ≡ find_in proto ext rows
+pub found_none : (proto : Proto) (ext : Ext) (rows : List Mapping) → None ≡ row_at proto ext rows → None ≡ find_in proto ext rows
 found_none proto ext rows none = sym (no_item (is_at proto ext) rows (no_place (position (is_at proto ext) rows) none))

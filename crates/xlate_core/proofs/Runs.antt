@@ -8,13 +8,13 @@ use Rattle.aftr_base.specs.declared.event.EventKind.{EventKind}
 use Rattle.aftr_base.specs.declared.event.DropCause.{DropCause}
 use Rattle.aftr_base.specs.declared.event.LogEvent.{LogEvent}
 use Rattle.aftr_base.specs.declared.row.LeaseRow.{LeaseRow}
-use Rattle.xlate_core.specs.declared.nat_mapping.Row.{Row}
+use Rattle.nat_mapping.specs.Rows.{Mapping}
 use Rattle.xlate_core.specs.declared.grant.Grant.{Grant}
 use Rattle.xlate_core.specs.declared.step_out.Item.{Item}
 use Rattle.aftr_base.specs.Row.{block_event}
 use Rattle.xlate_core.specs.State.{State, Step}
 use Rattle.xlate_core.specs.Grant.{opening_events}
-use Rattle.xlate_core.specs.nat_mapping.Rows.{expired}
+use Rattle.nat_mapping.specs.Rows.{expired}
 use Rattle.xlate_core.specs.Expiry.{Closed, is_idle, closings_of, at_moment}
 use Rattle.xlate_core.specs.Step.{step, treatment, log_of, needs_horizon, promise_by}
 use Rattle.xlate_core.specs.Run.{Run, run}
@@ -98,7 +98,7 @@ lone_treated s bytes kind = by_way IsLone s bytes kind (record {
   forwards = λ got g by. record { items = omega arith; closings = refl; openings = one_opening s g; drops = omega arith };
 })
 
-few_taken : (n now : ℕ) (rows : List Row) (leases : List LeaseRow) → length (closings_of n now rows leases) ≤ n
+few_taken : (n now : ℕ) (rows : List Mapping) (leases : List LeaseRow) → length (closings_of n now rows leases) ≤ n
 few_taken n now rows leases =
     let idle = filter (is_idle rows) leases in
     omega (arith, length-map (take n idle) (block_event false now), length-take n idle)

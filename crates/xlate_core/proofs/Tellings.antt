@@ -19,7 +19,7 @@ use Rattle.aftr_base.specs.declared.event.LogEvent.{LogEvent}
 use Rattle.aftr_base.specs.declared.event.LogEvent.TheVariants.{Horizon}
 use Rattle.aftr_base.specs.declared.told.Told.{Told}
 use Rattle.aftr_base.proofs.Pairwise.{Pairwise}
-use Rattle.xlate_core.specs.declared.nat_mapping.Row.{Row}
+use Rattle.nat_mapping.specs.Rows.{Mapping}
 use Rattle.xlate_core.specs.Valid.{clash_open}
 use Rattle.xlate_core.specs.Expiry.{closings_of, is_idle, with_idle_ended}
 use Rattle.xlate_core.proofs.Closings.{becomes_busy, becomes_ended, closes_busy, closes_ended}
@@ -169,7 +169,7 @@ pub record IsClosable (now : ℕ) (pre ls : List LeaseRow) (t : Told) : Type 0 w
   pub each : AllByRecursion (MayClose now) ls
   pub same : t.leases ≡ pre ++ ls
 
-abbrev Tells : ℕ → ℕ → List Row → List LeaseRow → List LeaseRow → Told → Type 0
+abbrev Tells : ℕ → ℕ → List Mapping → List LeaseRow → List LeaseRow → Told → Type 0
 Tells n now rows pre ls t =
     told_after (closings_of n now rows ls) t
     ≡ Ok (told_with t (pre ++ with_idle_ended n now rows ls) (t.count + length (closings_of n now rows ls)))
@@ -187,7 +187,7 @@ tells_as t ls ls' k k' same count =
     ap₂ (λ (xs : List LeaseRow) (n : ℕ). let r : Result Told (Unit {0}) = Ok (told_with t xs n) in r) same count
 
 -- an idle lease closes, and the rest after it
-tells_ended : (n now : ℕ) (rows : List Row) (pre : List LeaseRow) (l : LeaseRow) (ls : List LeaseRow) (t : Told)
+tells_ended : (n now : ℕ) (rows : List Mapping) (pre : List LeaseRow) (l : LeaseRow) (ls : List LeaseRow) (t : Told)
     → IsClosable now pre (l ∷ ls) t → is_idle rows l ≡ true
     → ((t' : Told) → IsClosable now (pre ++ ended now l ∷ []) ls t' → Tells n now rows (pre ++ ended now l ∷ []) ls t')
     → Tells (suc n) now rows pre (l ∷ ls) t
@@ -214,7 +214,7 @@ tells_ended n now rows pre l ls t h idle later =
     (omega (arith, ap (λ (es : List LogEvent). length es) closes))
 
 -- another stays
-tells_busy : (n now : ℕ) (rows : List Row) (pre : List LeaseRow) (l : LeaseRow) (ls : List LeaseRow) (t : Told)
+tells_busy : (n now : ℕ) (rows : List Mapping) (pre : List LeaseRow) (l : LeaseRow) (ls : List LeaseRow) (t : Told)
     → IsClosable now pre (l ∷ ls) t → is_idle rows l ≡ false
     → ((t' : Told) → IsClosable now (pre ++ l ∷ []) ls t' → Tells n now rows (pre ++ l ∷ []) ls t')
     → Tells n now rows pre (l ∷ ls) t
@@ -230,14 +230,14 @@ tells_busy n now rows pre l ls t h busy later =
     ∙ ap (λ (xs : List LeaseRow). pre ++ xs) (sym (becomes_busy n now rows l ls busy)))
     (ap (λ (es : List LogEvent). t.count + length es) (sym closes))
 
-tells_by : (b : Bool) (n now : ℕ) (rows : List Row) (pre : List LeaseRow) (l : LeaseRow) (ls : List LeaseRow) (t : Told)
+tells_by : (b : Bool) (n now : ℕ) (rows : List Mapping) (pre : List LeaseRow) (l : LeaseRow) (ls : List LeaseRow) (t : Told)
     → is_idle rows l ≡ b → IsClosable now pre (l ∷ ls) t
     → ((k : ℕ) (front : List LeaseRow) (t' : Told) → IsClosable now front ls t' → Tells k now rows front ls t')
     → Tells (suc n) now rows pre (l ∷ ls) t
 tells_by true n now rows pre l ls t idle h later = tells_ended n now rows pre l ls t h idle (later n (pre ++ ended now l ∷ []))
 tells_by false n now rows pre l ls t busy h later = tells_busy (suc n) now rows pre l ls t h busy (later (suc n) (pre ++ l ∷ []))
 
-pub tell_closings : (n now : ℕ) (rows : List Row) (pre ls : List LeaseRow) (t : Told) → IsClosable now pre ls t → Tells n now rows pre ls t
+pub tell_closings : (n now : ℕ) (rows : List Mapping) (pre ls : List LeaseRow) (t : Told) → IsClosable now pre ls t → Tells n now rows pre ls t
 tell_closings zero now rows pre ls t h = tells_same t (pre ++ ls) h.same
 tell_closings (suc n) now rows pre [] t h = tells_same t (pre ++ []) h.same
 tell_closings (suc n) now rows pre (l ∷ ls) t h =

@@ -1,5 +1,5 @@
 -- In which ways a record is treated.
-use Rattle.std.proofs.Common.{◌≡◌, ℕ, ◌+◌, ◌<◌, ◌≤◌, false, cond, List, Some, All, Result, Ok, Err, ok_or, nat_le, nat_lt, refl, ap, subst}
+use Rattle.std.proofs.Common.{◌≡◌, true, ℕ, ◌+◌, ◌<◌, ◌≤◌, false, cond, List, Option, Some, All, Result, Ok, Err, ok_or, nat_le, nat_lt, refl, ap, ◌∙◌, subst}
 use Rattle.std.proofs.lemmas.Bool.{leb-true, ltb-true}
 use Rattle.aftr_base.specs.Attempt.{◌>>=◌}
 use Rattle.aftr_base.specs.declared.value.Ip6.{Ip6}
@@ -10,10 +10,11 @@ use Rattle.aftr_base.specs.declared.event.DropCause.TheVariants.{Settling, Snapp
 use Rattle.aftr_base.specs.declared.event.DropCause.TheVariants.{BadChange}
 use Rattle.aftr_base.specs.declared.event.EventKind.TheVariants.{Softwire, Public, Tick, Change, Snapped, Foreign, Stray}
 use Rattle.cfg_text.specs.declared.config.Config.{Config}
-use Rattle.xlate_core.specs.declared.nat_mapping.Row.{Row}
+use Rattle.nat_mapping.specs.Rows.{Mapping}
 use Rattle.xlate_core.specs.declared.grant.Grant.{Grant}
 use Rattle.xlate_core.specs.declared.grant.Sender.{Sender}
-use Rattle.xlate_core.specs.nat_mapping.Rows.{find_in, is_at}
+use Rattle.nat_mapping.specs.Rows.{is_at}
+use Rattle.xlate_core.specs.Rows.{find_in}
 use Rattle.xlate_core.specs.subscriber_table.Under.{subscriber_of}
 use Rattle.xlate_core.specs.State.{State, Step}
 use Rattle.xlate_core.specs.Datagram.{Datagram, place_on}
@@ -22,7 +23,7 @@ use Rattle.xlate_core.specs.Inbound.{inbound_of}
 use Rattle.xlate_core.specs.Step.{treatment, mapped, admitted_outbound, admitted_inbound, sent_out, sent_in, dropped, quiet}
 use Rattle.wire_l4.specs.Places.{proto_of}
 use Rattle.aftr_base.proofs.Founds.{found_in}
-use Rattle.xlate_core.proofs.Attempts.{step_gave, test_passed, was_there, ok_inj}
+use Rattle.xlate_core.proofs.Attempts.{gave, step_gave, test_passed, was_there, went, ok_inj}
 
 -- ---- what was received
 
@@ -70,14 +71,14 @@ pub record IsOut (s : State) (bytes : List ℕ) (got : Outbound) (g : Grant) : T
   pub grants : mapped s got ≡ Ok g
 
 -- a record from the public side that goes in, by this row
-pub record IsIn (s : State) (bytes : List ℕ) (d : Datagram) (row : Row) : Type 0 where
+pub record IsIn (s : State) (bytes : List ℕ) (d : Datagram) (row : Mapping) : Type 0 where
   pub settled : s.floor < s.clock
   pub admits : inbound_of s.config bytes ≡ Ok d
   pub finds : find_in (proto_of d.body) (place_on false d) s.rows ≡ Some row
   pub fits : 40 + d.header.fields.total ≤ s.config.softwire_mtu
 
 -- what holds of each row holds of it
-pub of_its_row : {s : State} {bytes : List ℕ} {d : Datagram} {row : Row} (P : Row → Type 0) → IsIn s bytes d row → All P s.rows → P row
+pub of_its_row : {s : State} {bytes : List ℕ} {d : Datagram} {row : Mapping} (P : Mapping → Type 0) → IsIn s bytes d row → All P s.rows → P row
 of_its_row {s = s} {d = d} {row = row} P by all = found_in P (is_at (proto_of d.body) (place_on false d)) s.rows row all by.finds
 
 abbrev both : Outbound → Grant → Outbound × Grant
@@ -96,22 +97,32 @@ is_out s bytes got g h =
       grants = grants;
     })
 
-abbrev datagram_by : Datagram → Row → Datagram × Row
+abbrev datagram_by : Datagram → Mapping → Datagram × Mapping
 datagram_by d row = (d, row)
 
-pub is_in : (s : State) (bytes : List ℕ) (d : Datagram) (row : Row) → admitted_inbound s bytes ≡ Ok (datagram_by d row) → IsIn s bytes d row
+pub is_in : (s : State) (bytes : List ℕ) (d : Datagram) (row : Mapping) → admitted_inbound s bytes ≡ Ok (datagram_by d row) → IsIn s bytes d row
 is_in s bytes d row h =
     let (late, inside) = test_passed (nat_lt s.floor s.clock) Settling _ (datagram_by d row) h in
     let (x, admits, next) = step_gave (inbound_of s.config bytes) _ (datagram_by d row) inside in
     let (r, found, next') = step_gave (ok_or (find_in (proto_of x.body) (place_on false x) s.rows) NoMapping) _ (datagram_by d row) next in
     let (fits, same) = test_passed (nat_le (40 + x.header.fields.total) s.config.softwire_mtu) NoProtocol _ (datagram_by d row) next' in
     let is : datagram_by x r ≡ datagram_by d row = ok_inj (datagram_by x r) (datagram_by d row) _ refl same in
-    subst (λ (z : Datagram × Row). IsIn s bytes z.0 z.1) is (record {
+    subst (λ (z : Datagram × Mapping). IsIn s bytes z.0 z.1) is (record {
       settled = ltb-true s.floor s.clock late;
       admits = admits;
       finds = was_there (find_in (proto_of x.body) (place_on false x) s.rows) NoMapping r found;
       fits = leb-true (40 + x.header.fields.total) s.config.softwire_mtu fits;
     })
+
+-- a record that passes each rule
+pub admits_in : (s : State) (bytes : List ℕ) (d : Datagram) (row : Mapping) → nat_lt s.floor s.clock ≡ true
+    → inbound_of s.config bytes ≡ Ok d → find_in (proto_of d.body) (place_on false d) s.rows ≡ Some row
+    → nat_le (40 + d.header.fields.total) s.config.softwire_mtu ≡ true → admitted_inbound s bytes ≡ Ok (datagram_by d row)
+admits_in s bytes d row late admits found fits =
+    went (nat_lt s.floor s.clock) Settling _ late ∙ gave (inbound_of s.config bytes) _ d admits
+    ∙ gave (ok_or (find_in (proto_of d.body) (place_on false d) s.rows) NoMapping) _ row
+    (ap (λ (o : Option Mapping). ok_or o NoMapping) found)
+    ∙ went (nat_le (40 + d.header.fields.total) s.config.softwire_mtu) NoProtocol _ fits
 
 -- ---- the ways of a treatment
 
@@ -119,7 +130,7 @@ is_in s bytes d row h =
 pub record EachWay (P : Step → Type 0) (s : State) (bytes : List ℕ) : Type 0 where
   pub rests : P (quiet s)
   pub drops : (cause : DropCause) → P (dropped s cause)
-  pub delivers : (d : Datagram) (row : Row) → IsIn s bytes d row → P (sent_in s d row)
+  pub delivers : (d : Datagram) (row : Mapping) → IsIn s bytes d row → P (sent_in s d row)
   pub forwards : (got : Outbound) (g : Grant) → IsOut s bytes got g → P (sent_out s got g)
 
 way_out : (P : Step → Type 0) (s : State) (bytes : List ℕ) (r : Result (Outbound × Grant) DropCause) → admitted_outbound s bytes ≡ r
@@ -127,7 +138,7 @@ way_out : (P : Step → Type 0) (s : State) (bytes : List ℕ) (r : Result (Outb
 way_out P s bytes (Err cause) e each = each.drops cause
 way_out P s bytes (Ok found) e each = each.forwards found.0 found.1 (is_out s bytes found.0 found.1 e)
 
-way_in : (P : Step → Type 0) (s : State) (bytes : List ℕ) (r : Result (Datagram × Row) DropCause) → admitted_inbound s bytes ≡ r
+way_in : (P : Step → Type 0) (s : State) (bytes : List ℕ) (r : Result (Datagram × Mapping) DropCause) → admitted_inbound s bytes ≡ r
     → EachWay P s bytes → P (elim r [ Err cause ↦ dropped s cause | Ok found ↦ sent_in s found.0 found.1 ])
 way_in P s bytes (Err cause) e each = each.drops cause
 way_in P s bytes (Ok found) e each = each.delivers found.0 found.1 (is_in s bytes found.0 found.1 e)

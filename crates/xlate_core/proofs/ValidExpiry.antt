@@ -1,8 +1,8 @@
 -- A consistent state stays so as the clock is raised.
 use Rattle.std.proofs.Common.{◌≡◌, ℕ, zero, suc, ◌<◌, ◌≤◌, Bool, true, false, not, ◌&&◌, is_none, List, [], ◌∷◌, length, map, get_or}
-use Rattle.std.proofs.Common.{max, Option, Some, None, nat_le, nat_lt, refl, sym, ap, ◌∙◌, subst, arith}
+use Rattle.std.proofs.Common.{max, Option, Some, None, nat_le, refl, sym, ap, ◌∙◌, subst, arith}
 use Rattle.std.specs.Prelude.{if◌then◌else◌}
-use Rattle.std.specs.List.{AllZip}
+use Rattle.std.specs.List.{AllZip, list_any}
 use Rattle.std.proofs.lemmas.Bool.{both_ways, and_parts, and_from, and_right, not_from_true, leb-true, le-leb, eqb-true, eq-eqb}
 use Rattle.std.proofs.lemmas.List.Folds.{list_any_at}
 use Rattle.std.proofs.lemmas.List.Elements.{All-map, All-filter}
@@ -14,11 +14,12 @@ use Rattle.aftr_base.specs.declared.value.Moment.{Moment}
 use Rattle.aftr_base.specs.declared.value.Subscriber.{Subscriber}
 use Rattle.aftr_base.specs.declared.row.LeaseRow.{LeaseRow}
 use Rattle.aftr_base.proofs.Pairwise.{pairs_filter, pairs_map, pairs_zip, all_zip, any_zip, zip_same}
-use Rattle.xlate_core.specs.declared.nat_mapping.Row.{Row}
-use Rattle.xlate_core.specs.nat_mapping.Rows.{in_use, live_peers, expired}
+use Rattle.nat_mapping.specs.Rows.{Mapping}
+use Rattle.nat_mapping.specs.Rows.{in_use, is_used, live_peers, expired}
 use Rattle.xlate_core.specs.State.{State, latest}
+pub use Rattle.xlate_core.specs.Expiry.{MayEnd, Lasts, Idle}
 use Rattle.xlate_core.specs.Expiry.{Closed, is_idle, with_idle_ended, closing_limit, at_moment}
-use Rattle.xlate_core.specs.Valid.{IsConsistent, lies_in_lease, is_granted, is_owned, are_alike, clash_open, is_lease_by}
+use Rattle.xlate_core.specs.Valid.{AreGranted, IsConsistent, lies_in_lease, is_owned, are_alike, clash_open, is_lease_by}
 use Rattle.xlate_core.proofs.Clock.{by_moment}
 
 -- ---- a place in a lease
@@ -55,35 +56,30 @@ here_from owner e l h =
     (and_from (nat_le l.first e.port) (nat_le e.port l.last) (le-leb l.first e.port h.low) (le-leb e.port l.last h.high))
 
 -- that of a row
-pub lies_parts : (r : Row) (l : LeaseRow) → lies_in_lease r l ≡ true → LiesIn r.owner r.ext l
+pub lies_parts : (r : Mapping) (l : LeaseRow) → lies_in_lease r l ≡ true → LiesIn r.owner r.ext l
 lies_parts r l h = here_parts r.owner r.ext l h
 
-pub lies_from : (r : Row) (l : LeaseRow) → LiesIn r.owner r.ext l → lies_in_lease r l ≡ true
+pub lies_from : (r : Mapping) (l : LeaseRow) → LiesIn r.owner r.ext l → lies_in_lease r l ≡ true
 lies_from r l h = here_from r.owner r.ext l h
 
 -- ---- which leases end
 
--- a lease as it was, or ended now because it was idle
-pub data MayEnd (now : ℕ) (rows : List Row) (l m : LeaseRow) : Type 0 where
-  Lasts : m ≡ l → MayEnd now rows l m
-  Idle : is_idle rows l ≡ true → m ≡ ended now l → MayEnd now rows l m
-
-may_end : (now : ℕ) (rows : List Row) (l : LeaseRow) (b : Bool) → is_idle rows l ≡ b → MayEnd now rows l (if b then ended now l else l)
+may_end : (now : ℕ) (rows : List Mapping) (l : LeaseRow) (b : Bool) → is_idle rows l ≡ b → MayEnd now rows l (if b then ended now l else l)
 may_end now rows l true e = Idle e refl
 may_end now rows l false e = Lasts refl
 
-pub idle_end : (n now : ℕ) (rows : List Row) (ls : List LeaseRow) → AllZip (MayEnd now rows) ls (with_idle_ended n now rows ls)
+pub idle_end : (n now : ℕ) (rows : List Mapping) (ls : List LeaseRow) → AllZip (MayEnd now rows) ls (with_idle_ended n now rows ls)
 idle_end zero now rows ls = zip_same (MayEnd now rows) (λ l. Lasts refl) ls
 idle_end (suc n) now rows [] = tt
 idle_end (suc n) now rows (l ∷ ls) =
     (may_end now rows l (is_idle rows l) refl, idle_end (if is_idle rows l then n else suc n) now rows ls)
 
 -- an idle lease is open
-pub idle_open : (rows : List Row) (l : LeaseRow) → is_idle rows l ≡ true → is_open l ≡ true
+pub idle_open : (rows : List Mapping) (l : LeaseRow) → is_idle rows l ≡ true → is_open l ≡ true
 idle_open rows l idle = (and_parts (is_open l) (not (in_use l.addr l.first l.last rows)) idle).0
 
 -- a lease that has the place of a row isn't idle, and stays
-used : (rows : List Row) (k : ℕ) (d : Row) (l : LeaseRow) → k < length rows → lies_in_lease (get_or rows k d) l ≡ true
+used : (rows : List Mapping) (k : ℕ) (d : Mapping) (l : LeaseRow) → k < length rows → lies_in_lease (get_or rows k d) l ≡ true
     → in_use l.addr l.first l.last rows ≡ true
 used rows k d l lt lies =
     let r = get_or rows k d in
@@ -93,12 +89,12 @@ used rows k d l lt lies =
     let here : (ip4_eq l.addr r.ext.addr && is_within l.first l.last r.ext.port) ≡ true =
     and_from (ip4_eq l.addr r.ext.addr) (is_within l.first l.last r.ext.port) (eq-eqb l.addr.0 r.ext.addr.0 (sym h.addr))
     (and_from (nat_le l.first r.ext.port) (nat_le r.ext.port l.last) low high) in
-    list_any_at (λ (q : Row). ip4_eq l.addr q.ext.addr && is_within l.first l.last q.ext.port) rows k d lt here
+    list_any_at (λ (q : Mapping). ip4_eq l.addr q.ext.addr && is_within l.first l.last q.ext.port) rows k d lt here
 
-not_idle : (rows : List Row) (l : LeaseRow) → in_use l.addr l.first l.last rows ≡ true → is_idle rows l ≡ false
+not_idle : (rows : List Mapping) (l : LeaseRow) → in_use l.addr l.first l.last rows ≡ true → is_idle rows l ≡ false
 not_idle rows l u = and_right (is_open l) (not (in_use l.addr l.first l.last rows)) (not_from_true (in_use l.addr l.first l.last rows) u)
 
-stays : {now : ℕ} {rows : List Row} {l m : LeaseRow} (k : ℕ) (d : Row) → k < length rows → MayEnd now rows l m
+stays : {now : ℕ} {rows : List Mapping} {l m : LeaseRow} (k : ℕ) (d : Mapping) → k < length rows → MayEnd now rows l m
     → lies_in_lease (get_or rows k d) l ≡ true → lies_in_lease (get_or rows k d) m ≡ true
 stays {rows = rows} k d lt (Lasts same) h = subst (λ (x : LeaseRow). lies_in_lease (get_or rows k d) x ≡ true) (sym same) h
 stays {rows = rows} {l = l} k d lt (Idle idle e) h = absurd (both_ways (is_idle rows l) (not_idle rows l (used rows k d l lt h)) idle)
@@ -150,7 +146,7 @@ lease_since {now = now} {latest = latest} {l = l} le h = since_by l.since.0 now 
 pub open_begun : {now latest : ℕ} {l : LeaseRow} → is_open l ≡ true → IsLeaseBy now latest l → l.since.0 ≤ now
 open_begun {now = now} {latest = latest} {l = l} lasts h = open_since l.since.0 now latest l.until lasts h.over
 
-lease_on : {before earlier now latest : ℕ} {rows : List Row} {l m : LeaseRow} → before ≤ now → earlier ≤ latest → now ≤ latest
+lease_on : {before earlier now latest : ℕ} {rows : List Mapping} {l m : LeaseRow} → before ≤ now → earlier ≤ latest → now ≤ latest
     → MayEnd now rows l m → IsLeaseBy before earlier l → IsLeaseBy now latest m
 lease_on {before = before} {earlier = earlier} {now = now} {latest = latest} {l = l} le le' by (Lasts same) h =
     subst (IsLeaseBy now latest) (sym same) (record {
@@ -166,7 +162,7 @@ lease_on {now = now} {latest = latest} {rows = rows} {l = l} le le' by (Idle idl
       over = and_from (nat_le l.since.0 now) (nat_le now latest) (le-leb l.since.0 now (omega (arith, begun, le))) (le-leb now latest by);
     })
 
-lease_later : (before earlier now latest : ℕ) (rows : List Row) (l m : LeaseRow) → before ≤ now → earlier ≤ latest → now ≤ latest
+lease_later : (before earlier now latest : ℕ) (rows : List Mapping) (l m : LeaseRow) → before ≤ now → earlier ≤ latest → now ≤ latest
     → MayEnd now rows l m → is_lease_by before earlier l ≡ true → is_lease_by now latest m ≡ true
 lease_later before earlier now latest rows l m le le' by z h =
     lease_from now latest m (lease_on le le' by z (lease_parts before earlier l h))
@@ -190,13 +186,13 @@ closed_second l m h =
     let over = overlaps l m.addr m.first m.last in
     ap (λ (b : Bool). is_open l && b && over) h ∙ and_closed (is_open l) over
 
-clash_ended : {now : ℕ} {rows : List Row} {l u : LeaseRow} (m : LeaseRow) → MayEnd now rows l u → clash_open l m ≡ false
+clash_ended : {now : ℕ} {rows : List Mapping} {l u : LeaseRow} (m : LeaseRow) → MayEnd now rows l u → clash_open l m ≡ false
     → clash_open u m ≡ false
 clash_ended m (Lasts same) h = subst (λ (x : LeaseRow). clash_open x m ≡ false) (sym same) h
 clash_ended {now = now} {l = l} m (Idle idle e) h =
     subst (λ (x : LeaseRow). clash_open x m ≡ false) (sym e) (closed_first (ended now l) m refl)
 
-clash_later : {now : ℕ} {rows : List Row} {l m u v : LeaseRow} → MayEnd now rows l u → MayEnd now rows m v
+clash_later : {now : ℕ} {rows : List Mapping} {l m u v : LeaseRow} → MayEnd now rows l u → MayEnd now rows m v
     → clash_open l m ≡ false → clash_open u v ≡ false
 clash_later {m = m} {u = u} z (Lasts same) h = subst (λ (x : LeaseRow). clash_open u x ≡ false) (sym same) (clash_ended m z h)
 clash_later {now = now} {m = m} {u = u} z (Idle idle e) h =
@@ -204,19 +200,30 @@ clash_later {now = now} {m = m} {u = u} z (Idle idle e) h =
 
 -- ---- the state
 
+-- those that stay are granted
+pub granted_left : (now : ℕ) (rows : List Mapping) (leases : List LeaseRow) → AreGranted rows leases → AreGranted (expired now rows) leases
+granted_left now rows leases h =
+    let granted = λ (r : Mapping). list_any (lies_in_lease r) leases ≡ true in
+    All-filter is_used granted (map (live_peers now) rows) (All-map granted (live_peers now) rows h)
+
+-- and stay so where idle leases end
+pub granted_ended : (now : ℕ) (rows : List Mapping) (ls ms : List LeaseRow) → AllZip (MayEnd now rows) ls ms → AreGranted rows ls
+    → AreGranted rows ms
+granted_ended now rows ls ms z h = λ k d lt.
+    let lies = lies_in_lease (get_or rows k d) in
+    any_zip (MayEnd now rows) lies lies (λ l m y p. stays k d lt y p) ls ms z (h k d lt)
+
 -- the rows that a later moment leaves
 pub rows_left : (s : State) (at : ℕ) → IsConsistent s → IsConsistent (record s { rows = expired at s.rows })
 rows_left s at v =
-    let lasts = λ (r : Row). nat_lt 0 (length r.peers) in
     let live = live_peers at in
     let all = map live s.rows in
-    let granted = λ (r : Row). is_granted s r ≡ true in
-    let owned = λ (r : Row). is_owned s r ≡ true in
-    let apart = λ (r q : Row). are_alike r q ≡ false in
+    let owned = λ (r : Mapping). is_owned s r ≡ true in
+    let apart = λ (r q : Mapping). are_alike r q ≡ false in
     record {
-      granted = All-filter lasts granted all (All-map granted live s.rows v.granted);
-      owned = All-filter lasts owned all (All-map owned live s.rows v.owned);
-      apart = pairs_filter apart lasts all (pairs_map apart apart live (λ r q h. h) s.rows v.apart);
+      granted = granted_left at s.rows s.leases v.granted;
+      owned = All-filter is_used owned all (All-map owned live s.rows v.owned);
+      apart = pairs_filter apart is_used all (pairs_map apart apart live (λ r q h. h) s.rows v.apart);
       leases = v.leases;
       open_apart = v.open_apart;
     }
@@ -235,9 +242,7 @@ leases_left s now le v =
     let by : now ≤ end = omega arith in
     let apart = λ (l m : LeaseRow). clash_open l m ≡ false in
     record {
-      granted = λ k d lt.
-          let lies = lies_in_lease (get_or s.rows k d) in
-          any_zip Z lies lies (λ l m y h. stays k d lt y h) s.leases after z (v.granted k d lt);
+      granted = granted_ended now s.rows s.leases after z v.granted;
       owned = v.owned;
       apart = v.apart;
       leases = all_zip Z before later (λ l m y h. lease_later s.clock (latest s) now end s.rows l m le rises by y h) s.leases after z

@@ -14,12 +14,13 @@ use Rattle.aftr_base.specs.declared.value.Ext.{Ext}
 use Rattle.aftr_base.specs.declared.value.InnerKey.{InnerKey}
 use Rattle.aftr_base.specs.declared.value.Subscriber.{Subscriber}
 use Rattle.aftr_base.specs.declared.row.LeaseRow.{LeaseRow}
-use Rattle.xlate_core.specs.declared.nat_mapping.Row.{Row}
-use Rattle.xlate_core.specs.declared.nat_mapping.Peer.{Peer}
-use Rattle.xlate_core.specs.nat_mapping.Rows.{is_at, touched, with_peer}
+use Rattle.nat_mapping.specs.Rows.{Mapping}
+use Rattle.nat_mapping.specs.declared.row.Peer.{Peer}
+use Rattle.nat_mapping.specs.Rows.{is_at, with_peer}
+use Rattle.xlate_core.specs.Rows.{touched}
 use Rattle.xlate_core.specs.subscriber_table.Under.{subscriber_of}
 use Rattle.xlate_core.specs.State.{State, latest}
-use Rattle.xlate_core.specs.Valid.{IsConsistent, lies_in_lease, is_granted, is_owned, are_alike, clash_open, is_lease_by}
+use Rattle.xlate_core.specs.Valid.{AreGranted, IsConsistent, lies_in_lease, is_granted, is_owned, are_alike, clash_open, is_lease_by}
 use Rattle.xlate_core.specs.Grant.{granted}
 use Rattle.xlate_core.proofs.ValidExpiry.{lies_here}
 use Rattle.aftr_base.proofs.Pairwise.{pairs_zip, all_zip, zip_same}
@@ -53,18 +54,18 @@ same_subscriber s t h =
 
 -- ---- rows that differ in their peers
 
-abbrev pub SameRow : Row → Row → Type 0
+abbrev pub SameRow : Mapping → Mapping → Type 0
 SameRow r q = (q.key ≡ r.key) × (q.owner ≡ r.owner) × (q.ext ≡ r.ext)
 
-row_kept : (r : Row) → SameRow r r
+row_kept : (r : Mapping) → SameRow r r
 row_kept r = (refl, refl, refl)
 
-touched_by : (b : Bool) (r : Row) (peers : List Peer) (rows after : List Row) → AllZip SameRow rows after
+touched_by : (b : Bool) (r : Mapping) (peers : List Peer) (rows after : List Mapping) → AllZip SameRow rows after
     → AllZip SameRow (r ∷ rows) (if b then (record r { peers = peers } ∷ rows) else (r ∷ after))
 touched_by true r peers rows after z = (row_kept r, zip_same SameRow row_kept rows)
 touched_by false r peers rows after z = (row_kept r, z)
 
-pub rows_touched : (key : InnerKey) (p : Peer) (rows : List Row) → AllZip SameRow rows (touched key p rows)
+pub rows_touched : (key : InnerKey) (p : Peer) (rows : List Mapping) → AllZip SameRow rows (touched key p rows)
 rows_touched key p [] = tt
 rows_touched key p (r ∷ rows) = touched_by (key_eq key r.key) r (with_peer p r.peers) rows (touched key p rows) (rows_touched key p rows)
 
@@ -72,19 +73,20 @@ rows_touched key p (r ∷ rows) = touched_by (key_eq key r.key) r (with_peer p r
 abbrev pub lies_at : List LeaseRow → Subscriber → Ext → Bool
 lies_at ls owner e = list_any (lies_here owner e) ls
 
-granted_same : (s : State) (r q : Row) → SameRow r q → is_granted s r ≡ true → is_granted s q ≡ true
-granted_same s r q z h = ap (λ (o : Subscriber). lies_at s.leases o q.ext) z.1 ∙ ap (λ (e : Ext). lies_at s.leases r.owner e) z.2 ∙ h
+lies_same : (leases : List LeaseRow) (r q : Mapping) → SameRow r q → list_any (lies_in_lease r) leases ≡ true
+    → list_any (lies_in_lease q) leases ≡ true
+lies_same leases r q z h = ap (λ (o : Subscriber). lies_at leases o q.ext) z.1 ∙ ap (λ (e : Ext). lies_at leases r.owner e) z.2 ∙ h
 
 abbrev owns_key : State → InnerKey → Subscriber → Bool
 owns_key s key o = elim (subscriber_of s.config key.softwire) [ None ↦ false | Some owner ↦ subscriber_eq o owner ]
 
-owned_same : (s : State) (r q : Row) → SameRow r q → is_owned s r ≡ true → is_owned s q ≡ true
+owned_same : (s : State) (r q : Mapping) → SameRow r q → is_owned s r ≡ true → is_owned s q ≡ true
 owned_same s r q z h = ap (λ (o : Subscriber). owns_key s q.key o) z.1 ∙ ap (λ (k : InnerKey). owns_key s k r.owner) z.0 ∙ h
 
 abbrev alike_at : InnerKey → Ext → InnerKey → Ext → Bool
 alike_at rk re qk qe = key_eq rk qk || (proto_eq qk.proto rk.proto && place_eq qe re)
 
-alike_same : (x y u v : Row) → SameRow x u → SameRow y v → are_alike x y ≡ false → are_alike u v ≡ false
+alike_same : (x y u v : Mapping) → SameRow x u → SameRow y v → are_alike x y ≡ false → are_alike u v ≡ false
 alike_same x y u v z w h =
     ap (λ (k : InnerKey). alike_at k u.ext v.key v.ext) z.0
     ∙ ap (λ (e : Ext). alike_at x.key e v.key v.ext) z.2
@@ -92,14 +94,20 @@ alike_same x y u v z w h =
     ∙ ap (λ (e : Ext). alike_at x.key x.ext y.key e) w.2
     ∙ h
 
+-- rows that lie in open leases do so with other peers
+pub granted_touched : (leases : List LeaseRow) (key : InnerKey) (p : Peer) (rows : List Mapping) → AreGranted rows leases
+    → AreGranted (touched key p rows) leases
+granted_touched leases key p rows h =
+    let granted = λ (r : Mapping). list_any (lies_in_lease r) leases ≡ true in
+    all_zip SameRow granted granted (lies_same leases) rows (touched key p rows) (rows_touched key p rows) h
+
 pub consistent_touched : (s : State) (key : InnerKey) (p : Peer) → IsConsistent s → IsConsistent (record s { rows = touched key p s.rows })
 consistent_touched s key p v =
     let z = rows_touched key p s.rows in
-    let granted = λ (r : Row). is_granted s r ≡ true in
-    let owned = λ (r : Row). is_owned s r ≡ true in
-    let apart = λ (r q : Row). are_alike r q ≡ false in
+    let owned = λ (r : Mapping). is_owned s r ≡ true in
+    let apart = λ (r q : Mapping). are_alike r q ≡ false in
     record {
-      granted = all_zip SameRow granted granted (granted_same s) s.rows (touched key p s.rows) z v.granted;
+      granted = granted_touched s.leases key p s.rows v.granted;
       owned = all_zip SameRow owned owned (owned_same s) s.rows (touched key p s.rows) z v.owned;
       apart = pairs_zip SameRow apart apart alike_same s.rows (touched key p s.rows) z v.apart;
       leases = v.leases;
@@ -108,7 +116,7 @@ consistent_touched s key p v =
 
 -- ---- one row more
 
-pub consistent_pushed : (s : State) (r : Row) → IsConsistent s → is_granted s r ≡ true → is_owned s r ≡ true
+pub consistent_pushed : (s : State) (r : Mapping) → IsConsistent s → is_granted s r ≡ true → is_owned s r ≡ true
     → All (λ q. key_eq r.key q.key ≡ false) s.rows → All (λ q. is_at r.key.proto r.ext q ≡ false) s.rows
     → IsConsistent (record s { rows = s.rows ++ r ∷ [] })
 consistent_pushed s r v granted owned keys places = record {
@@ -126,12 +134,12 @@ consistent_pushed s r v granted owned keys places = record {
 abbrev pub with_lease : LeaseRow → State → State
 with_lease l s = record s { leases = s.leases ++ l ∷ [] }
 
-pub granted_on : (s : State) (l : LeaseRow) (r : Row) → is_granted s r ≡ true → is_granted (with_lease l s) r ≡ true
+pub granted_on : (s : State) (l : LeaseRow) (r : Mapping) → is_granted s r ≡ true → is_granted (with_lease l s) r ≡ true
 granted_on s l r h =
     let lies = lies_in_lease r in
     list_any-append lies s.leases (l ∷ []) ∙ or_left (list_any lies s.leases) (list_any lies (l ∷ [])) h
 
-pub granted_by : (s : State) (l : LeaseRow) (r : Row) → lies_in_lease r l ≡ true → is_granted (with_lease l s) r ≡ true
+pub granted_by : (s : State) (l : LeaseRow) (r : Mapping) → lies_in_lease r l ≡ true → is_granted (with_lease l s) r ≡ true
 granted_by s l r h =
     let lies = lies_in_lease r in
     list_any-append lies s.leases (l ∷ []) ∙ or_right (list_any lies s.leases) (list_any lies (l ∷ [])) (or_left (lies l) false h)

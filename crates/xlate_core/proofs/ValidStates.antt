@@ -10,10 +10,9 @@ use Rattle.cfg_text.specs.Accepted.{is_accepted}
 use Rattle.xlate_core.specs.declared.grant.Grant.{Grant}
 use Rattle.xlate_core.specs.Outbound.{Outbound}
 use Rattle.xlate_core.specs.State.{State, Step, latest}
-use Rattle.xlate_core.specs.Datagram.{key_of}
 use Rattle.xlate_core.specs.Expiry.{at_moment}
 use Rattle.xlate_core.specs.Valid.{IsConsistent, IsStart, is_granted, is_owned, is_lease_by}
-use Rattle.xlate_core.specs.Step.{step, treatment}
+use Rattle.xlate_core.specs.Step.{flow_of, step, treatment}
 use Rattle.xlate_core.specs.Run.{run, start}
 use Rattle.xlate_core.proofs.Clock.{config_stays, floor_stays, moment_clock}
 use Rattle.xlate_core.proofs.ValidExpiry.{closed_first, consistent_moment}
@@ -54,7 +53,7 @@ treated_beside s bytes kind = by_way (IsBeside s) s bytes kind (record {
 
 -- a packet that goes out was granted its place
 pub grant_out : {s : State} {bytes : List ℕ} {got : Outbound} {g : Grant} → is_accepted s.config ≡ true → IsOut s bytes got g
-    → IsGrant s got.who (key_of got.who.softwire got.datagram) got.datagram.header.fields.dst g
+    → IsGrant s (flow_of got) g
 grant_out ok by = record { accepted = ok; owns = by.owns; grants = by.grants }
 
 pub consistent_treated : (s : State) (bytes : List ℕ) (kind : EventKind) → is_accepted s.config ≡ true → IsConsistent s

@@ -1,35 +1,32 @@
 -- Places of leases fit into an IPv4 header and a UDP header, and are read back from there.
-use Rattle.std.proofs.Common.{◌≡◌, ℕ, ◌+◌, ◌-◌, ◌*◌, ◌^◌, ◌<◌, ◌≤◌, true, List, [], ◌++◌, option_map, option_to_list, Option, Some, None}
+use Rattle.std.proofs.Common.{◌≡◌, ℕ, ◌^◌, ◌<◌, ◌≤◌, true, List, [], ◌++◌, option_map, option_to_list, None}
 use Rattle.std.proofs.Common.{All, refl, sym, ap, ◌∙◌, subst, arith}
 use Rattle.std.specs.Prelude.{IfSome}
-use Rattle.std.specs.List.{range_with_len}
-use Rattle.std.proofs.lemmas.List.Elements.{All-map, All-weaker, All-nil, All-cons, All-append}
+use Rattle.std.proofs.lemmas.List.Elements.{All-weaker, All-nil, All-cons, All-append}
 use Rattle.std.proofs.lemmas.Nat.{from_be_bytes-to_be_bytes_2, from_be_bytes-to_be_bytes_4}
-use Rattle.std.proofs.Math.Nat.{div-mul-le_self, mul-le-mul_right}
 use Rattle.aftr_base.specs.Bytes.{u16_at, u32_at, be16, be32}
 use Rattle.aftr_base.specs.Value.{moment}
-use Rattle.aftr_base.specs.Plan.{is_prefix6, block_count}
-use Rattle.aftr_base.specs.declared.value.Ip4.{Ip4}
+use Rattle.aftr_base.specs.Plan.{is_prefix6}
 use Rattle.aftr_base.specs.declared.value.Ext.{Ext}
-use Rattle.aftr_base.specs.declared.value.InnerKey.{InnerKey}
 use Rattle.aftr_base.specs.declared.value.Proto.TheVariants.{Udp}
 use Rattle.aftr_base.specs.declared.value.Subscriber.{Subscriber}
 use Rattle.aftr_base.specs.declared.row.LeaseRow.{LeaseRow}
 use Rattle.aftr_base.specs.declared.event.Event.{Event}
 use Rattle.aftr_base.specs.declared.event.EventKind.{EventKind}
 use Rattle.aftr_base.proofs.Pairwise.{all_zip}
-use Rattle.aftr_base.proofs.Founds.{found_in, first_in, mapped_some, in_row, any_gives}
-use Rattle.cfg_text.specs.declared.config.Config.{Config}
+use Rattle.aftr_base.proofs.Founds.{any_gives}
 use Rattle.cfg_text.specs.Accepted.{is_accepted}
-use Rattle.cfg_text.proofs.Facts.{facts, addresses_fit}
+use Rattle.cfg_text.proofs.Facts.{facts}
 use Rattle.wire_ip4.specs.Grammar.{Header, header_bytes}
 use Rattle.wire_l4.specs.Grammar.{Segment, Transport, Ports, segment_bytes, transport_bytes}
 use Rattle.wire_l4.specs.Places.{segment_sum}
-use Rattle.xlate_core.specs.declared.nat_mapping.Row.{Row}
+use Rattle.nat_mapping.specs.Rows.{Mapping}
 use Rattle.xlate_core.specs.declared.grant.Grant.{Grant}
-use Rattle.xlate_core.specs.declared.grant.Sender.{Sender}
-use Rattle.xlate_core.specs.nat_mapping.Rows.{expired}
-use Rattle.xlate_core.specs.port_blocks.Free.{block_anywhere, block_at, block_on, block_ports, addresses_of, is_free, port_of}
+use Rattle.xlate_core.specs.declared.grant.Flow.{Flow}
+use Rattle.nat_mapping.specs.Rows.{expired}
+use Rattle.port_blocks.specs.declared.choice.Block.{Block}
+use Rattle.port_blocks.specs.declared.choice.Choice.TheVariants.{New}
+use Rattle.port_blocks.proofs.Choices.{chosen_address}
 use Rattle.xlate_core.specs.State.{State, Step}
 use Rattle.xlate_core.specs.Expiry.{Closed, with_idle_ended, closing_limit, at_moment}
 pub use Rattle.xlate_core.specs.Valid.{IsOnWire}
@@ -40,8 +37,8 @@ use Rattle.xlate_core.proofs.Clock.{by_moment}
 use Rattle.xlate_core.proofs.WholeDatagrams.{IsWhole}
 use Rattle.xlate_core.proofs.Treatments.{by_way}
 use Rattle.xlate_core.proofs.ValidExpiry.{here_parts, lies_here, MayEnd, Lasts, Idle, idle_end}
-use Rattle.xlate_core.proofs.ValidForwards.{lease_of, owner_prefix}
-use Rattle.xlate_core.proofs.ValidGrants.{IsGrant, GrantCase, Keeps, Takes, Opens, grant_case}
+use Rattle.xlate_core.proofs.ValidForwards.{block_range, chosen_for, lease_of, owner_prefix}
+use Rattle.xlate_core.proofs.ValidGrants.{IsGrant, GrantCase, Keeps, Takes, Opens, choice_for, grant_case}
 use Rattle.xlate_core.proofs.ValidRows.{lies_at}
 use Rattle.xlate_core.proofs.ValidStates.{grant_out, moment_accepted}
 
@@ -78,42 +75,9 @@ port_out e d is lt =
     ap (λ (t : Transport). u16_at 20 (datagram_bytes (translated true e (with_body d t)))) is.body
     ∙ port_of_ports e d is.segment is.options lt
 
--- ---- blocks of the pool
-
--- an address of 32 bits, and as many ports of 16 bits from this one on
-pub record FitsBlock (c : Config) (b : Ip4 × ℕ) : Type 0 where
-  pub addr : b.0.0 < 2 ^ 32
-  pub ports : b.1 + c.block_size ≤ 2 ^ 16
-
-block_ends : (size n : ℕ) → n < block_count size → port_of size n + size ≤ 2 ^ 16
-block_ends size n lt =
-    let more : (n + 1) * size ≤ block_count size * size = mul-le-mul_right size (omega arith) in
-    omega (arith, more, div-mul-le_self (65536 - 1024) size)
-
-ports_fit : (c : Config) → All (λ n. n + c.block_size ≤ 2 ^ 16) (block_ports c)
-ports_fit c =
-    let count = block_count c.block_size - c.ratio in
-    All-map (λ n. n + c.block_size ≤ 2 ^ 16) (port_of c.block_size) (range_with_len c.ratio count)
-    (All-weaker (λ n. (c.ratio ≤ n) × (n < c.ratio + count)) (λ n. port_of c.block_size n + c.block_size ≤ 2 ^ 16)
-    (λ n h. block_ends c.block_size n (omega (arith, h.0, h.1))) (range_with_len c.ratio count) (in_row c.ratio count))
-
-block_at_fits : (c : Config) (leases : List LeaseRow) (owner : Subscriber) (now : ℕ) (addr : Ip4) (b : Ip4 × ℕ) → addr.0 < 2 ^ 32
-    → block_at c leases owner now addr ≡ Some b → FitsBlock c b
-block_at_fits c leases owner now addr b lt h =
-    let (first, found, same) = mapped_some (λ (n : ℕ). (addr, n)) (block_on c leases owner now addr) b h in
-    let fits = found_in (λ n. n + c.block_size ≤ 2 ^ 16) (is_free c leases owner now addr) (block_ports c) first (ports_fit c) found in
-    subst (FitsBlock c) same (record { addr = lt; ports = fits })
-
-pub block_fits : (c : Config) (leases : List LeaseRow) (owner : Subscriber) (now : ℕ) (b : Ip4 × ℕ) → is_accepted c ≡ true
-    → block_anywhere c leases owner now ≡ Some b → FitsBlock c b
-block_fits c leases owner now b ok h =
-    let addrs = addresses_fit c.pool (facts c ok).pool in
-    let (addr, lt, here) = first_in (block_at c leases owner now) (λ (a : Ip4). a.0 < 2 ^ 32) (addresses_of c.pool) b addrs h in
-    block_at_fits c leases owner now addr b lt here
-
 -- ---- a lease's owner is a prefix, and its address and ports are numbers of 32 and of 16 bits
 
-wire_ended : (now : ℕ) (rows : List Row) (l m : LeaseRow) → MayEnd now rows l m → IsOnWire l → IsOnWire m
+wire_ended : (now : ℕ) (rows : List Mapping) (l m : LeaseRow) → MayEnd now rows l m → IsOnWire l → IsOnWire m
 wire_ended now rows l m (Lasts same) h = subst IsOnWire (sym same) h
 wire_ended now rows l m (Idle idle e) h =
     subst IsOnWire (sym e) (record { owner = h.owner; addr = h.addr; range = h.range; last = h.last })
@@ -125,39 +89,56 @@ wire_moment at s h =
     by_moment (λ (c : Closed). All IsOnWire c.state.leases) at s (λ le. h)
     (λ lt. all_zip (MayEnd at rows) IsOnWire IsOnWire (wire_ended at rows) s.leases after (idle_end closing_limit at rows s.leases) h)
 
-pub wire_opened : (s : State) (owner : Subscriber) (b : Ip4 × ℕ) → is_accepted s.config ≡ true → is_prefix6 owner.0 ≡ true
-    → block_anywhere s.config s.leases owner s.clock ≡ Some b → IsOnWire (lease_of s owner b)
-wire_opened s owner b ok prefix h =
-    let fits = block_fits s.config s.leases owner s.clock b ok h in
+wire_addr : (l : LeaseRow) → IsOnWire l → l.addr.0 < 2 ^ 32
+wire_addr l h = h.addr
+
+pub wire_opened : (s : State) (f : Flow) (b : Block) → is_accepted s.config ≡ true → is_prefix6 f.who.owner.0 ≡ true
+    → All IsOnWire s.leases → choice_for s f ≡ New b → IsOnWire (lease_of s f.who.owner b)
+wire_opened s f b ok prefix wire h =
+    let is = chosen_for s f b ok h in
     let some = (facts s.config ok).block_least in
-    record { owner = prefix; addr = fits.addr; range = omega (arith, some); last = omega (arith, fits.ports, some) }
+    let addrs = All-weaker IsOnWire (λ (l : LeaseRow). l.addr.0 < 2 ^ 32) wire_addr s.leases wire in
+    record {
+      owner = prefix;
+      addr = chosen_address s.config s.leases f.who.owner s.clock b ok addrs h;
+      range = omega (arith, some, is.last);
+      last = omega (arith, is.last, is.ports, some);
+    }
 
 -- that of a grant opens now, where it has one
 pub record IsNew (clock : ℕ) (l : LeaseRow) : Type 0 where
   pub since : l.since ≡ moment clock
   pub until : l.until ≡ None
-  pub fits : IsOnWire l
+  pub owner : is_prefix6 l.owner.0 ≡ true
+  pub range : l.first ≤ l.last
 
-new_case : (s : State) (who : Sender) (key : InnerKey) (g : Grant) → is_accepted s.config ≡ true → is_prefix6 who.owner.0 ≡ true
-    → GrantCase s who key g → IfSome g.lease (IsNew s.clock)
-new_case s who key g ok prefix (Keeps r found same) = subst (λ (x : Grant). IfSome x.lease (IsNew s.clock)) (sym same) tt
-new_case s who key g ok prefix (Takes x none taken same) = subst (λ (x : Grant). IfSome x.lease (IsNew s.clock)) (sym same) tt
-new_case s who key g ok prefix (Opens b none free same) =
+new_case : (s : State) (f : Flow) (g : Grant) → is_accepted s.config ≡ true → is_prefix6 f.who.owner.0 ≡ true
+    → GrantCase s f g → IfSome g.lease (IsNew s.clock)
+new_case s f g ok prefix (Keeps r found same) = subst (λ (x : Grant). IfSome x.lease (IsNew s.clock)) (sym same) tt
+new_case s f g ok prefix (Takes x none taken same) = subst (λ (x : Grant). IfSome x.lease (IsNew s.clock)) (sym same) tt
+new_case s f g ok prefix (Opens b none free same) =
+    let range = block_range (facts s.config ok).block_least (chosen_for s f b ok free) in
     subst (λ (x : Grant). IfSome x.lease (IsNew s.clock)) (sym same)
-    (record { since = refl; until = refl; fits = wire_opened s who.owner b ok prefix free })
+    (record { since = refl; until = refl; owner = prefix; range = range })
 
-pub grant_new : {s : State} {who : Sender} {key : InnerKey} {remote : Ip4} {g : Grant} → IsGrant s who key remote g
-    → IfSome g.lease (IsNew s.clock)
-grant_new {s = s} {who = who} {key = key} {g = g} h =
-    new_case s who key g h.accepted (owner_prefix s.config key.softwire who.owner h.accepted h.owns) (grant_case h)
+pub grant_new : {s : State} {f : Flow} {g : Grant} → IsGrant s f g → IfSome g.lease (IsNew s.clock)
+grant_new {s = s} {f = f} {g = g} h =
+    new_case s f g h.accepted (owner_prefix s.config f.key.softwire f.who.owner h.accepted h.owns) (grant_case h)
 
-wire_new : (clock : ℕ) (o : Option LeaseRow) → IfSome o (IsNew clock) → All IsOnWire (option_to_list o)
-wire_new clock None h = All-nil IsOnWire
-wire_new clock (Some l) h = All-cons IsOnWire l [] h.fits (All-nil IsOnWire)
+wire_case : (s : State) (f : Flow) (g : Grant) → is_accepted s.config ≡ true → is_prefix6 f.who.owner.0 ≡ true → All IsOnWire s.leases
+    → GrantCase s f g → All IsOnWire (option_to_list g.lease)
+wire_case s f g ok prefix wire (Keeps r found same) =
+    subst (λ (x : Grant). All IsOnWire (option_to_list x.lease)) (sym same) (All-nil IsOnWire)
+wire_case s f g ok prefix wire (Takes x none taken same) =
+    subst (λ (y : Grant). All IsOnWire (option_to_list y.lease)) (sym same) (All-nil IsOnWire)
+wire_case s f g ok prefix wire (Opens b none free same) =
+    subst (λ (x : Grant). All IsOnWire (option_to_list x.lease)) (sym same)
+    (All-cons IsOnWire (lease_of s f.who.owner b) [] (wire_opened s f b ok prefix wire free) (All-nil IsOnWire))
 
-pub wire_grant : {s : State} {who : Sender} {key : InnerKey} {remote : Ip4} {g : Grant} → IsGrant s who key remote g
-    → All IsOnWire s.leases → All IsOnWire (after_grant who key remote g s).leases
-wire_grant {s = s} {g = g} h wire = All-append IsOnWire s.leases (option_to_list g.lease) wire (wire_new s.clock g.lease (grant_new h))
+pub wire_grant : {s : State} {f : Flow} {g : Grant} → IsGrant s f g → All IsOnWire s.leases → All IsOnWire (after_grant f g s).leases
+wire_grant {s = s} {f = f} {g = g} h wire =
+    let prefix = owner_prefix s.config f.key.softwire f.who.owner h.accepted h.owns in
+    All-append IsOnWire s.leases (option_to_list g.lease) wire (wire_case s f g h.accepted prefix wire (grant_case h))
 
 pub wire_treated : (s : State) (bytes : List ℕ) (kind : EventKind) → is_accepted s.config ≡ true
     → All IsOnWire s.leases → All IsOnWire (treatment s kind bytes).state.leases

@@ -1,5 +1,5 @@
 -- Lists that correspond item by item.
-use Rattle.std.proofs.Common.{◌≡◌, ℕ, zero, suc, ◌<◌, List, [], ◌∷◌, ◌++◌, length, get_or, refl, ap, arith}
+use Rattle.std.proofs.Common.{◌≡◌, ℕ, zero, suc, ◌<◌, List, [], ◌∷◌, ◌++◌, length, get_or, set, refl, ap, arith}
 use Rattle.std.specs.List.{AllZip}
 
 -- over a list in between
@@ -47,3 +47,11 @@ zip_weaker Z W weaker [] [] z = tt
 zip_weaker Z W weaker [] (y ∷ ys) z = absurd z
 zip_weaker Z W weaker (x ∷ xs) [] z = absurd z
 zip_weaker Z W weaker (x ∷ xs) (y ∷ ys) z = (weaker x y z.0, zip_weaker Z W weaker xs ys z.1)
+
+-- one of the second list in its place
+pub zip_put : {X Y : Type 0} (Z : X → Y → Type 0) (xs : List X) (ys : List Y) (i : ℕ) (d : X) (y : Y) → AllZip Z xs ys → i < length ys
+    → Z (get_or xs i d) y → AllZip Z xs (set ys i y)
+zip_put Z xs [] i d y z lt h = absurd (omega (arith, lt))
+zip_put Z [] (v ∷ ys) i d y z lt h = absurd z
+zip_put Z (x ∷ xs) (v ∷ ys) zero d y z lt h = (h, z.1)
+zip_put Z (x ∷ xs) (v ∷ ys) (suc i) d y z lt h = (z.0, zip_put Z xs ys i d y z.1 (omega (arith, lt)) h)

@@ -6,7 +6,8 @@ use Rattle.aftr_base.specs.declared.value.Ext.{Ext}
 use Rattle.aftr_base.specs.declared.value.InnerKey.{InnerKey}
 use Rattle.wire_ip4.specs.Grammar.{Header, header_bytes}
 use Rattle.wire_ip4.specs.Forwarded.{address_on, forwarded}
-use Rattle.wire_l4.specs.Grammar.{Transport, transport_bytes}
+use Rattle.aftr_base.specs.declared.value.Proto.TheVariants.{Tcp, Udp, Icmp}
+use Rattle.wire_l4.specs.Grammar.{Transport, Ports, Query, tcp_flags, transport_bytes}
 use Rattle.wire_l4.specs.Places.{proto_of, port_at, replaced}
 
 -- an IPv4 header and the transport behind it
@@ -24,6 +25,13 @@ place_on source d = place (address_on source d.header) (port_at source d.body)
 -- what the mapping of a subscriber's datagram is found by
 abbrev pub key_of : Ip6 → Datagram → InnerKey
 key_of softwire d = record { softwire = softwire; proto = proto_of d.body; addr = (place_on true d).addr; port = (place_on true d).port }
+
+-- the control bits, which only TCP has
+abbrev pub flags_of : Transport → ℕ
+flags_of (Ports Tcp s) = tcp_flags s
+flags_of (Ports Udp s) = 0
+flags_of (Ports Icmp s) = 0
+flags_of (Query e) = 0
 
 -- the place of a mapping behind its softwire
 abbrev pub inner_place : InnerKey → Ext

@@ -1,29 +1,34 @@
 -- What goes when the clock is raised.
-use Rattle.std.specs.Prelude.{ℕ, zero, suc, Bool, false, not, ◌&&◌, nat_le, List, [], ◌∷◌, map, filter, take, if◌then◌else◌}
+use Rattle.std.specs.Prelude.{◌≡◌, true, ℕ, zero, suc, Bool, false, not, ◌&&◌, nat_le, List, [], ◌∷◌, map, filter, take, if◌then◌else◌}
 use Rattle.std.specs.List.{list_any}
 use Rattle.aftr_base.specs.Row.{is_open, ended, block_event}
 use Rattle.aftr_base.specs.declared.row.LeaseRow.{LeaseRow}
 use Rattle.aftr_base.specs.declared.event.LogEvent.{LogEvent}
-use Rattle.xlate_core.specs.declared.nat_mapping.Row.{Row}
-use Rattle.xlate_core.specs.nat_mapping.Rows.{in_use, expired}
+use Rattle.nat_mapping.specs.Rows.{Mapping}
+use Rattle.nat_mapping.specs.Rows.{in_use, expired}
 use Rattle.xlate_core.specs.State.{State}
 
 -- an open lease in whose range no row has its place
-abbrev pub is_idle : List Row → LeaseRow → Bool
+abbrev pub is_idle : List Mapping → LeaseRow → Bool
 is_idle rows l = is_open l && not (in_use l.addr l.first l.last rows)
 
-abbrev pub has_idle : List Row → List LeaseRow → Bool
+abbrev pub has_idle : List Mapping → List LeaseRow → Bool
 has_idle rows leases = list_any (is_idle rows) leases
 
 -- the leases after the first n idle ones ended
-abbrev pub with_idle_ended : ℕ → ℕ → List Row → List LeaseRow → List LeaseRow
+abbrev pub with_idle_ended : ℕ → ℕ → List Mapping → List LeaseRow → List LeaseRow
 with_idle_ended zero now rows ls = ls
 with_idle_ended (suc n) now rows [] = []
 with_idle_ended (suc n) now rows (l ∷ ls) =
     (if is_idle rows l then ended now l else l) ∷ with_idle_ended (if is_idle rows l then n else suc n) now rows ls
 
+-- a lease as it was, or ended now because it was idle
+pub data MayEnd (now : ℕ) (rows : List Mapping) (l m : LeaseRow) : Type 0 where
+  Lasts : m ≡ l → MayEnd now rows l m
+  Idle : is_idle rows l ≡ true → m ≡ ended now l → MayEnd now rows l m
+
 -- the closings of the first n idle leases, in order of opening
-abbrev pub closings_of : ℕ → ℕ → List Row → List LeaseRow → List LogEvent
+abbrev pub closings_of : ℕ → ℕ → List Mapping → List LeaseRow → List LogEvent
 closings_of n now rows leases = map (block_event false now) (take n (filter (is_idle rows) leases))
 
 -- how many leases end at one moment, at the most

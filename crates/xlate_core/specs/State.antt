@@ -8,7 +8,7 @@ use Rattle.aftr_base.specs.declared.row.PlanRow.{PlanRow}
 use Rattle.aftr_base.specs.declared.event.DropCause.{DropCause}
 use Rattle.aftr_base.specs.declared.event.LogEvent.{LogEvent}
 use Rattle.cfg_text.specs.declared.config.Config.{Config}
-use Rattle.xlate_core.specs.declared.nat_mapping.Row.{Row}
+use Rattle.nat_mapping.specs.Rows.{Mapping}
 use Rattle.xlate_core.specs.declared.step_out.Item.{Item}
 
 -- The clock is the greatest moment so far. A packet at or before the floor settles: up to there an earlier run may have
@@ -18,7 +18,7 @@ pub record State : Type 0 where
   pub clock : ℕ
   pub floor : ℕ
   pub horizon : ℕ
-  pub rows : List Row
+  pub rows : List Mapping
   pub leases : List LeaseRow
   pub plans : List PlanRow
 

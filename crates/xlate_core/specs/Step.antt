@@ -18,12 +18,13 @@ use Rattle.aftr_base.specs.declared.event.DropCause.TheVariants.{Settling, Snapp
 use Rattle.aftr_base.specs.declared.event.DropCause.TheVariants.{BadChange}
 use Rattle.wire_l4.specs.Places.{proto_of}
 use Rattle.softwire.specs.Tunnel.{tunnel_packet}
-use Rattle.xlate_core.specs.declared.nat_mapping.Row.{Row}
+use Rattle.nat_mapping.specs.Rows.{Mapping}
 use Rattle.xlate_core.specs.declared.step_out.Item.{Item}
 use Rattle.xlate_core.specs.declared.grant.Grant.{Grant}
-use Rattle.xlate_core.specs.nat_mapping.Rows.{find_in}
+use Rattle.xlate_core.specs.Rows.{find_in}
 use Rattle.xlate_core.specs.State.{State, Step, is_past_horizon, reach_of}
-use Rattle.xlate_core.specs.Datagram.{Datagram, datagram_bytes, place_on, key_of, inner_place, translated}
+use Rattle.xlate_core.specs.declared.grant.Flow.{Flow}
+use Rattle.xlate_core.specs.Datagram.{Datagram, datagram_bytes, flags_of, place_on, key_of, inner_place, translated}
 use Rattle.xlate_core.specs.Outbound.{Outbound, outbound_of}
 use Rattle.xlate_core.specs.Inbound.{inbound_of}
 use Rattle.xlate_core.specs.Grant.{granted, after_grant, opening_events}
@@ -42,9 +43,18 @@ item s side owner bytes = record { side = side; at = moment s.clock; owner = own
 
 -- ---- outbound: from a subscriber to the public side
 
+-- what a place is asked for
+abbrev pub flow_of : Outbound → Flow
+flow_of got = record {
+  who = got.who;
+  key = key_of got.who.softwire got.datagram;
+  remote = place_on false got.datagram;
+  flags = flags_of got.datagram.body;
+}
+
 -- the place that the datagram's mapping has or gets, or the first reason against it
 abbrev pub mapped : State → Outbound → Result Grant DropCause
-mapped s got = granted s got.who (key_of got.who.softwire got.datagram) got.datagram.header.fields.dst
+mapped s got = granted s (flow_of got)
 
 -- the datagram and its grant, or the first rule that refuses the record
 abbrev pub admitted_outbound : State → List ℕ → Result (Outbound × Grant) DropCause
@@ -56,7 +66,7 @@ admitted_outbound s bytes = do
 
 abbrev pub sent_out : State → Outbound → Grant → Step
 sent_out s got g = record {
-  state = after_grant got.who (key_of got.who.softwire got.datagram) got.datagram.header.fields.dst g s;
+  state = after_grant (flow_of got) g s;
   items = item s PublicSide (Some got.who.owner) (datagram_bytes (translated true g.place got.datagram)) ∷ [];
   closings = [];
   openings = opening_events s g;
@@ -69,7 +79,7 @@ outbound_step s bytes = elim (admitted_outbound s bytes) [ Err cause ↦ dropped
 -- ---- inbound: from the public side to the softwire of the mapping at the destination; no deadline changes
 
 -- the datagram and its mapping, or the first rule that refuses the record; a packet isn't cut for the softwire
-abbrev pub admitted_inbound : State → List ℕ → Result (Datagram × Row) DropCause
+abbrev pub admitted_inbound : State → List ℕ → Result (Datagram × Mapping) DropCause
 admitted_inbound s bytes = do
   require (nat_lt s.floor s.clock) Settling
   d ← inbound_of s.config bytes
@@ -78,11 +88,11 @@ admitted_inbound s bytes = do
   Ok (d, row)
 
 -- the datagram as it goes to the softwire of its mapping, with its TOS as the traffic class (RFC 2473 6.4)
-abbrev pub delivered_bytes : State → Datagram → Row → List ℕ
+abbrev pub delivered_bytes : State → Datagram → Mapping → List ℕ
 delivered_bytes s d row =
     tunnel_packet s.config.aftr row.key.softwire d.header.fields.tos 4 (datagram_bytes (translated false (inner_place row.key) d))
 
-abbrev pub sent_in : State → Datagram → Row → Step
+abbrev pub sent_in : State → Datagram → Mapping → Step
 sent_in s d row = record (quiet s) { items = item s SoftwireSide None (delivered_bytes s d row) ∷ [] }
 
 abbrev pub inbound_step : State → List ℕ → Step

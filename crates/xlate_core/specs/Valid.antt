@@ -11,24 +11,28 @@ use Rattle.aftr_base.specs.declared.row.PlanRow.{PlanRow}
 use Rattle.aftr_base.specs.declared.told.Told.{Told}
 use Rattle.cfg_text.specs.Accepted.{is_accepted}
 use Rattle.cfg_text.specs.declared.config.Config.{Config}
-use Rattle.xlate_core.specs.declared.nat_mapping.Row.{Row}
+use Rattle.nat_mapping.specs.Rows.{Mapping}
 use Rattle.xlate_core.specs.subscriber_table.Under.{subscriber_of}
-use Rattle.xlate_core.specs.nat_mapping.Rows.{is_at}
+use Rattle.nat_mapping.specs.Rows.{is_at}
 use Rattle.xlate_core.specs.State.{State, latest}
 
 -- a row's place lies in an open lease of its owner
-abbrev pub lies_in_lease : Row → LeaseRow → Bool
+abbrev pub lies_in_lease : Mapping → LeaseRow → Bool
 lies_in_lease r l = is_open l && subscriber_eq r.owner l.owner && ip4_eq r.ext.addr l.addr && is_within l.first l.last r.ext.port
 
-abbrev pub is_granted : State → Row → Bool
+abbrev pub is_granted : State → Mapping → Bool
 is_granted s r = list_any (lies_in_lease r) s.leases
 
+-- each row's does
+abbrev pub AreGranted : List Mapping → List LeaseRow → Type 0
+AreGranted rows leases = All (λ r. list_any (lies_in_lease r) leases ≡ true) rows
+
 -- the owner is the subscriber of the key's softwire
-abbrev pub is_owned : State → Row → Bool
+abbrev pub is_owned : State → Mapping → Bool
 is_owned s r = elim (subscriber_of s.config r.key.softwire) [ None ↦ false | Some owner ↦ subscriber_eq r.owner owner ]
 
 -- two rows with one key, or with one place in one protocol
-abbrev pub are_alike : Row → Row → Bool
+abbrev pub are_alike : Mapping → Mapping → Bool
 are_alike r q = key_eq r.key q.key || is_at q.key.proto q.ext r
 
 -- the lease isn't over before that moment

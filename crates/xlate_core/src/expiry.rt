@@ -1,13 +1,15 @@
 //! What goes when the clock is raised: peers and mappings (RFC 4787 4.3), and blocks that nothing uses.
 ghost use Rattle.std.specs.Prelude.{◌≡◌, ◌≤◌, ◌++◌, ◌&&◌, false, IfOk, OnOk};
+ghost use Rattle.std.specs.List.{AllZip};
 ghost use Rattle.aftr_base.specs.Limits.{moment_limit};
-ghost use Rattle.xlate_core.specs.Expiry.{at_moment, closing_limit, closings_of, has_idle, is_idle, with_idle_ended};
+ghost use Rattle.xlate_core.specs.Expiry.{MayEnd, at_moment, closing_limit, closings_of, has_idle, is_idle, with_idle_ended};
 ghost use Rattle.xlate_core.specs.Stepped.{HasMoved};
 
-use crate::nat_mapping::Table;
-use crate::port_blocks::{Blocks, block_event};
+use crate::step_out::block_event;
 use crate::translator::Core;
 use aftr_base::{LeaseRow, List, LogEvent, Moment, NoMemory};
+use nat_mapping::Table;
+use port_blocks::Blocks;
 
 /// How many leases end at one moment, at the most.
 const CLOSING_LIMIT: u16 = 512;
@@ -44,16 +46,19 @@ fn close_idle(
     log: &mut List<LogEvent>,
 ) -> Result<bool, NoMemory>
     ensures leases { OnOk result
-        (blocks.new ≡ with_idle_ended closing_limit now.0 table.now blocks.old) }
+        (blocks.new.rows ≡ with_idle_ended closing_limit now.0 table.now.rows blocks.old.rows) }
     ensures log { OnOk result
-        (log.new ≡ log.old ++ closings_of closing_limit now.0 table.now blocks.old) }
-    ensures none { IfOk result (λ none. (none && has_idle table.now blocks.new) ≡ false) }
+        (log.new ≡ log.old ++ closings_of closing_limit now.0 table.now.rows blocks.old.rows) }
+    ensures none { IfOk result
+        (λ none. (none && has_idle table.now.rows blocks.new.rows) ≡ false) }
+    ensures ended { AllZip (MayEnd now.0 table.now.rows) blocks.old.rows blocks.new.rows }
 {
     let mut left = CLOSING_LIMIT;
-    for lease in blocks.leases.iter_mut() {
-        if left > 0 && is_idle(table, lease) {
-            log.push(block_event(false, now, lease))?;
-            lease.until = Some(now);
+    for at in 0..blocks.rows().len() {
+        let lease = blocks.rows()[at];
+        if left > 0 && is_idle(table, &lease) {
+            log.push(block_event(false, now, &lease))?;
+            blocks.give(at, now);
             left -= 1;
         }
     }
@@ -62,7 +67,7 @@ fn close_idle(
 
 // whether a lease is open and no row has its place in its range
 fn is_idle(table: &Table, lease: &LeaseRow) -> bool
-    ensures { result ≡ is_idle table.now lease.now }
+    ensures { result ≡ is_idle table.now.rows lease.now }
 {
     lease.until.is_none() && !table.in_use(lease.addr, lease.first, lease.last)
 }

@@ -1,18 +1,23 @@
 //! Which place a mapping gets, and what is kept of it (RFC 4787 4, RFC 6888 3).
-ghost use Rattle.std.specs.Prelude.{◌≡◌, ◌<◌, ◌++◌, ◌||◌, [], ◌∷◌, Ok, Err, Some, OnOk, OnErr, length, take, slice_get, option_to_list, if◌then◌else◌};
-ghost use Rattle.aftr_base.specs.declared.event.DropCause.TheVariants.{QuotaPeers};
-ghost use Rattle.xlate_core.specs.declared.nat_mapping.Row.{Row};
-ghost use Rattle.xlate_core.specs.nat_mapping.Rows.{row_of, has_peer, search_of, usage_of};
-ghost use Rattle.xlate_core.specs.Grant.{at_once, place_in, place_in_lease, new_block, kept_place, place_for, granted, may_peer, peer_of, row_for, after_row, after_grant, opening_events};
+ghost use Rattle.std.specs.Prelude.{◌≡◌, ◌<◌, ◌-◌, ◌^◌, ◌++◌, None, Some, Ok, OnOk, IfSome, length, map, min, option_to_list, slice_get, take};
+ghost use Rattle.aftr_base.specs.Row.{block_event};
+ghost use Rattle.nat_mapping.specs.Rows.{Mapping, holding_of, mapping_of, row_of, searched};
+ghost use Rattle.quota.specs.Limits.{may_block, may_map, may_peer};
+ghost use Rattle.xlate_core.specs.Endpoints.{outbound_peer};
+ghost use Rattle.xlate_core.specs.Grant.{after_grant, at_once, granted, kept_place, new_block, opening_events, peer_of, place_for, place_in, place_in_lease, usage_of, with_choice};
+ghost use Rattle.xlate_core.specs.Rows.{touched};
 
-use crate::nat_mapping::{Peer, Row, RowId, Search, Table, Usage, has_peer};
-use crate::port_blocks::{Blocks, block_event, is_open_of, opened};
+use crate::endpoints::{self, has_peer, state_among};
+use crate::packet::require;
+use crate::step_out::block_event;
 use crate::translator::Core;
 use aftr_base::{
-    DropCause, Ext, InnerKey, Ip4, Ip6, LeaseRow, List, LogEvent, Moment, NoMemory, Proto,
-    Subscriber,
+    DropCause, Ext, InnerKey, Ip6, LeaseRow, List, LogEvent, NoMemory, Proto, Subscriber,
 };
-use std::alloc::Global;
+use nat_mapping::{Holding, Peer, RowId, Search, Table};
+use port_blocks::{Blocks, Choice, is_open_of, opened};
+use quota::{Usage, may_block, may_map, may_peer};
+use tcp_track::TcpState;
 
 /// A subscriber, and the softwire that it speaks through (RFC 6333).
 #[derive(Clone, Copy, Debug, PartialEq, Eq)]
@@ -28,77 +33,113 @@ pub struct Grant {
     pub lease: Option<LeaseRow>,
 }
 
-/// What a place is asked for: a sender's inner key, and the remote address that it sends to.
+/// What a place is asked for: a sender's inner key, the remote endpoint that it sends to, and the control bits that it
+/// sends, which only TCP has.
 #[derive(Clone, Copy, Debug)]
 pub(crate) struct Flow {
     pub(crate) who: Sender,
     pub(crate) key: InnerKey,
-    pub(crate) remote: Ip4,
+    pub(crate) remote: Ext,
+    pub(crate) flags: u8,
 }
 
 impl Core {
     /// Where the row of a flow's key stands, and what its subscriber has before that.
     pub(crate) fn search(&self, flow: &Flow) -> Search
-        ensures { result ≡ search_of flow.now.key flow.now.who.owner self.now.rows }
+        ensures row { result.row ≡ row_of flow.now.key self.now.rows }
+        ensures before { result.before
+            ≡ holding_of flow.now.who.owner (searched result.row self.now.rows) }
     {
         self.table.search(&flow.key, flow.who.owner)
     }
 
-    /// The place that the mapping of a flow has, or gets now; the search is that for its key. The cause is `QuotaPeers` where
-    /// the mapping would have a peer more and its subscriber has as many as it may, `QuotaBlocks` where no port is left in
-    /// the subscriber's open leases, and `PoolEmpty` where it has no open lease and no block of the pool is free.
+    /// The place that the mapping of a flow has, or gets now; the search is that for its key. The cause is `QuotaMappings`
+    /// or `QuotaPeers` where its subscriber has as many mappings or peers as it may and would have one more. No port being
+    /// left in its open leases, it is `QuotaBlocks` where it has as many of those as it may, `AddressFull` where it has some
+    /// and no block on their address is free, and `PoolEmpty` where it has none and no block of the pool is free.
     pub(crate) fn granted(&self, flow: &Flow, found: &Search) -> Result<Grant, DropCause>
-        requires { found.now ≡ search_of flow.now.key flow.now.who.owner self.now.rows }
-        ensures { result ≡ granted self.now flow.now.who flow.now.key flow.now.remote }
+        requires row { found.now.row ≡ row_of flow.now.key self.now.rows }
+        requires before { found.now.before
+            ≡ holding_of flow.now.who.owner (searched found.now.row self.now.rows) }
+        ensures { result ≡ granted self.now flow.now }
     {
         match found.row {
             Some(id) => self.kept_place(flow, id, found.before),
-            None => self.new_place(flow),
+            None => self.new_place(flow, found.before),
         }
     }
 
-    // the place of a row, unless the remote address would be a peer more than its subscriber may have
-    fn kept_place(&self, flow: &Flow, id: RowId, before: Usage) -> Result<Grant, DropCause>
+    // the place of a row, unless the remote endpoint would be a peer more than its subscriber may have
+    fn kept_place(&self, flow: &Flow, id: RowId, before: Holding) -> Result<Grant, DropCause>
         requires there { id.0 < length self.now.rows }
-        requires before { before ≡ usage_of flow.now.who.owner (take id.0 self.now.rows) }
-        ensures { (r : Row) → slice_get self.now.rows id.0 ≡ Some r
-            → result ≡ kept_place self.now flow.now.who flow.now.remote r }
+        requires before { before ≡ holding_of flow.now.who.owner (take id.0 self.now.rows) }
+        ensures { (r : Mapping) → slice_get self.now.rows id.0 ≡ Some r
+            → result ≡ kept_place self.now flow.now r }
     {
         let row = self.table.row(id);
-        if has_peer(flow.remote, row.peers.as_slice()) || self.may_peer(&flow.who, id, before) {
+        if has_peer(flow.key.proto, flow.remote, &row.peers)
+            || self.may_peer_from(flow.who.owner, id, before)
+        {
             Ok(at_once(row.ext))
         } else {
             Err(DropCause::QuotaPeers)
         }
     }
 
-    // whether a subscriber may have one more peer, where it has this much before a row
-    fn may_peer(&self, who: &Sender, id: RowId, before: Usage) -> bool
+    // the same, where it has this much before a row
+    fn may_peer_from(&self, owner: Subscriber, id: RowId, before: Holding) -> bool
         requires there { id.0 < length self.now.rows }
-        requires before { before ≡ usage_of who.now.owner (take id.0 self.now.rows) }
-        ensures { result ≡ may_peer self.now who.now }
+        requires before { before ≡ holding_of owner (take id.0 self.now.rows) }
+        ensures { result ≡ may_peer (usage_of self.now owner) self.now.config }
     {
-        let usage = self.table.usage_from(who.owner, id, before);
-        usage.peers < u64::from(self.config.max_peers)
+        let holding = self.table.holding_from(owner, id, before);
+        self.may_peer(owner, holding)
     }
 
-    // the place of a key that has no row: in the sender's open leases, or else in a new one
-    fn new_place(&self, flow: &Flow) -> Result<Grant, DropCause>
-        ensures { result ≡ place_for self.now flow.now.who flow.now.key.proto }
+    // whether a subscriber may have one more peer, where it has this much in all rows
+    fn may_peer(&self, owner: Subscriber, holding: Holding) -> bool
+        requires { holding ≡ holding_of owner self.now.rows }
+        ensures { result ≡ may_peer (usage_of self.now owner) self.now.config }
     {
-        match self.place_in_lease(&flow.who, flow.key.proto) {
+        may_peer(&usage_in(holding), &self.config)
+    }
+
+    // whether it may have one more mapping
+    fn may_map(&self, owner: Subscriber, holding: Holding) -> bool
+        requires { holding ≡ holding_of owner self.now.rows }
+        ensures { result ≡ may_map (usage_of self.now owner) self.now.config }
+    {
+        may_map(&usage_in(holding), &self.config)
+    }
+
+    // whether it may have one more open lease
+    fn may_block(&self, owner: Subscriber) -> bool
+        ensures { result ≡ may_block (usage_of self.now owner) self.now.config }
+    {
+        may_block(&blocks_used(self.blocks.count_of(owner)), &self.config)
+    }
+
+    // the place of a key that has no row, where its subscriber has this much in all rows
+    fn new_place(&self, flow: &Flow, holding: Holding) -> Result<Grant, DropCause>
+        requires { holding ≡ holding_of flow.now.who.owner self.now.rows }
+        ensures { result ≡ place_for self.now flow.now }
+    {
+        let owner = flow.who.owner;
+        require(self.may_map(owner, holding), DropCause::QuotaMappings)?;
+        require(self.may_peer(owner, holding), DropCause::QuotaPeers)?;
+        match self.place_in_lease(flow) {
             Some(place) => Ok(at_once(place)),
-            None => self.new_block(&flow.who),
+            None => self.new_block(flow),
         }
     }
 
     // the least free port of the first of the sender's open leases that has one, in order of opening
-    fn place_in_lease(&self, who: &Sender, proto: Proto) -> Option<Ext>
-        ensures { result ≡ place_in_lease self.now who.now proto }
+    fn place_in_lease(&self, flow: &Flow) -> Option<Ext>
+        ensures { result ≡ place_in_lease self.now flow.now }
     {
         for lease in self.blocks.rows() {
-            if is_open_of(who.owner, lease) {
-                if let Some(place) = place_in(&self.table, proto, lease) {
+            if is_open_of(flow.who.owner, lease) {
+                if let Some(place) = place_in(&self.table, flow.key.proto, lease) {
                     return Some(place);
                 }
             }
@@ -106,70 +147,85 @@ impl Core {
         None
     }
 
-    // the first place of the first free block of the pool, for a subscriber that has no open lease
-    fn new_block(&self, who: &Sender) -> Result<Grant, DropCause>
-        ensures { result ≡ new_block self.now who.now }
+    // the first place of a further block, which is leased from now on
+    fn new_block(&self, flow: &Flow) -> Result<Grant, DropCause>
+        ensures { result ≡ new_block self.now flow.now }
     {
-        if self.blocks.has_open(who.owner) {
-            return Err(DropCause::QuotaBlocks);
-        }
-        match self
-            .blocks
-            .block_anywhere(&self.config, who.owner, self.clock)
-        {
-            None => Err(DropCause::PoolEmpty),
-            Some((addr, first)) => Ok(Grant {
-                place: Ext { addr, port: first },
-                lease: Some(opened(&self.config, who.owner, self.clock, addr, first)),
+        let owner = flow.who.owner;
+        require(self.may_block(owner), DropCause::QuotaBlocks)?;
+        let choice = self.blocks.choose(&self.config, owner, None, self.clock);
+        self.with_choice(owner, choice)
+    }
+
+    fn with_choice(&self, owner: Subscriber, choice: Choice) -> Result<Grant, DropCause>
+        ensures { result ≡ with_choice self.now owner choice }
+    {
+        match choice {
+            Choice::New(block) => Ok(Grant {
+                place: Ext {
+                    addr: block.addr,
+                    port: block.first,
+                },
+                lease: Some(opened(owner, &block, self.clock)),
             }),
+            Choice::AddressFull => Err(DropCause::AddressFull),
+            Choice::PoolEmpty => Err(DropCause::PoolEmpty),
         }
     }
 
     /// Keeps what was granted to a flow: a row with its first peer where the key has none, else the peer in the key's
-    /// row, and a lease where one has to open. The peer is forgotten `udp_ms` milliseconds after the clock. After
-    /// `NoMemory` nothing is said of the rows and leases, which are only dropped.
+    /// row, and a lease where one has to open. After `NoMemory` nothing is said of the rows and leases, which are only
+    /// dropped.
     pub(crate) fn keep(
         &mut self,
-        alloc: Global,
         flow: &Flow,
         row: Option<RowId>,
         grant: &Grant,
     ) -> Result<(), NoMemory>
         requires row { row ≡ row_of flow.now.key self.old.rows }
-        requires grant { granted self.old flow.now.who flow.now.key flow.now.remote ≡ Ok grant.now }
-        ensures { OnOk result
-            (self.new ≡ after_grant flow.now.who flow.now.key flow.now.remote grant.now self.old) }
+        requires grant { granted self.old flow.now ≡ Ok grant.now }
+        ensures { OnOk result (self.new ≡ after_grant flow.now grant.now self.old) }
     {
-        self.keep_row(alloc, flow, row, grant.place)?;
-        keep_lease(&mut self.blocks, grant.lease)
-    }
-
-    fn keep_row(
-        &mut self,
-        alloc: Global,
-        flow: &Flow,
-        row: Option<RowId>,
-        place: Ext,
-    ) -> Result<(), NoMemory>
-        requires { row ≡ row_of flow.now.key self.old.rows }
-        ensures { OnOk result
-            (self.new ≡ after_row flow.now.who flow.now.key flow.now.remote place self.old) }
-    {
-        let peer = self.peer_of(flow.remote);
         match row {
-            Some(id) => self.table.touch(id, peer),
-            None => add_row(alloc, &mut self.table, flow, peer, place),
+            Some(id) => self.refresh(flow, id),
+            None => self.add_row(flow, grant),
         }
     }
 
-    // the peer that a packet to this address makes or refreshes
-    fn peer_of(&self, remote: Ip4) -> Peer
-        ensures { result ≡ peer_of self.now remote }
+    // makes or refreshes the flow's peer in the row of its key
+    fn refresh(&mut self, flow: &Flow, id: RowId) -> Result<(), NoMemory>
+        requires { Some id ≡ row_of flow.now.key self.old.rows }
+        ensures { let s = self.old in OnOk result
+            (self.new ≡ record s { rows = touched flow.now.key (peer_of s flow.now) s.rows }) }
     {
-        Peer {
-            addr: remote,
-            deadline: Moment(self.clock.0 + self.config.udp_ms),
-        }
+        let known = state_among(flow.key.proto, flow.remote, &self.table.row(id).peers);
+        let peer = self.peer_of(flow, known);
+        self.table.reserve(id)?;
+        self.table.touch(id, peer);
+        Ok(())
+    }
+
+    // adds a row with its first peer, and the lease that opens for it
+    fn add_row(&mut self, flow: &Flow, grant: &Grant) -> Result<(), NoMemory>
+        requires row { None ≡ row_of flow.now.key self.old.rows }
+        requires grant { granted self.old flow.now ≡ Ok grant.now }
+        ensures { OnOk result (self.new ≡ after_grant flow.now grant.now self.old) }
+    {
+        let peer = self.peer_of(flow, None);
+        reserve_for(&mut self.blocks, grant.lease)?;
+        let _id = self
+            .table
+            .insert(flow.key, flow.who.owner, grant.place, peer)?;
+        take_lease(&mut self.blocks, grant.lease);
+        Ok(())
+    }
+
+    // the peer that a flow's packet makes or refreshes, where it had this state before
+    fn peer_of(&self, flow: &Flow, known: Option<TcpState>) -> Peer
+        ensures { let f = flow.now in let s = self.now in
+            result ≡ outbound_peer s.config s.clock f.key.proto f.remote f.flags known }
+    {
+        endpoints::outbound_peer(&self.config, self.clock, flow, known)
     }
 
     /// Tells the log of the lease that opens for a grant, where there is one. `NoMemory` changes nothing.
@@ -193,9 +249,39 @@ fn at_once(place: Ext) -> Grant
     Grant { place, lease: None }
 }
 
+// a count as a quota takes it, which stands still at the greatest number of 32 bits
+fn limited(count: usize) -> u32
+    ensures { result ≡ min count (2 ^ 32 - 1) }
+{
+    u32::try_from(count).unwrap_or(u32::MAX)
+}
+
+// mappings and peers, for the limits on these
+fn usage_in(holding: Holding) -> Usage
+    ensures mappings { result.mappings ≡ min holding.rows (2 ^ 32 - 1) }
+    ensures peers { result.peers ≡ min holding.peers (2 ^ 32 - 1) }
+{
+    Usage {
+        mappings: limited(holding.rows),
+        peers: limited(holding.peers),
+        blocks: 0,
+    }
+}
+
+// open leases, for the limit on these
+fn blocks_used(count: usize) -> Usage
+    ensures { result.blocks ≡ min count (2 ^ 32 - 1) }
+{
+    Usage {
+        mappings: 0,
+        peers: 0,
+        blocks: limited(count),
+    }
+}
+
 // the least free port of a lease
 fn place_in(table: &Table, proto: Proto, lease: &LeaseRow) -> Option<Ext>
-    ensures { result ≡ place_in table.now proto lease.now }
+    ensures { result ≡ place_in table.now.rows proto lease.now }
 {
     let port = table.least_free(proto, lease.addr, lease.first, lease.last)?;
     Some(Ext {
@@ -204,34 +290,22 @@ fn place_in(table: &Table, proto: Proto, lease: &LeaseRow) -> Option<Ext>
     })
 }
 
-// adds a row with its first peer behind the others
-fn add_row(
-    alloc: Global,
-    table: &mut Table,
-    flow: &Flow,
-    peer: Peer,
-    place: Ext,
-) -> Result<(), NoMemory>
-    ensures ok { OnOk result
-        (table.new ≡ table.old ++ row_for flow.now.who flow.now.key peer place ∷ []) }
-    ensures err { OnErr result (table.new ≡ table.old) }
-{
-    let mut peers = List::new(alloc);
-    peers.push(peer)?;
-    table.insert(Row {
-        key: flow.key,
-        owner: flow.who.owner,
-        ext: place,
-        peers,
-    })
-}
-
-fn keep_lease(blocks: &mut Blocks, lease: Option<LeaseRow>) -> Result<(), NoMemory>
-    ensures ok { OnOk result (blocks.new ≡ blocks.old ++ option_to_list lease) }
-    ensures err { OnErr result (blocks.new ≡ blocks.old) }
+// makes room for a lease, where one has to open
+fn reserve_for(blocks: &mut Blocks, lease: Option<LeaseRow>) -> Result<(), NoMemory>
+    ensures rows { blocks.new.rows ≡ blocks.old.rows }
+    ensures ok { OnOk result (IfSome lease (λ l. 0 < blocks.new.spare)) }
 {
     match lease {
         None => Ok(()),
-        Some(lease) => blocks.open(lease),
+        Some(_) => blocks.reserve(1),
+    }
+}
+
+fn take_lease(blocks: &mut Blocks, lease: Option<LeaseRow>)
+    requires { IfSome lease (λ l. 0 < blocks.old.spare) }
+    ensures { blocks.new.rows ≡ blocks.old.rows ++ option_to_list lease }
+{
+    if let Some(lease) = lease {
+        blocks.take(lease);
     }
 }

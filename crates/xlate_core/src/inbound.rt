@@ -1,20 +1,19 @@
 //! From the public side to the softwire of a mapping (RFC 6333 6.2).
-ghost use Rattle.std.specs.Prelude.{◌≡◌, ◌≤◌, ◌+◌, nat_le, length, true, Ok, Err, None, IfOk, IfErr, OnOk};
-ghost use Rattle.std.specs.Option.{option_copied};
+ghost use Rattle.std.specs.Prelude.{◌≡◌, ◌≤◌, ◌+◌, nat_le, length, true, Ok, Err, None, Some, IfNone, IfSome, IfOk, IfErr, OnOk};
 ghost use Rattle.softwire.specs.Tunnel.{carrier};
-ghost use Rattle.xlate_core.specs.declared.nat_mapping.Row.{Row};
-ghost use Rattle.xlate_core.specs.nat_mapping.Rows.{find_in};
+ghost use Rattle.nat_mapping.specs.Rows.{Mapping, mapping_of};
+ghost use Rattle.xlate_core.specs.Rows.{find_in};
 ghost use Rattle.xlate_core.specs.Datagram.{inner_place};
 ghost use Rattle.xlate_core.specs.Inbound.{inbound_of};
 ghost use Rattle.xlate_core.specs.Step.{admitted_inbound, delivered_bytes, inbound_step, sent_in, with_horizon};
 ghost use Rattle.xlate_core.specs.Stepped.{HasStepped};
 
-use crate::nat_mapping::Row;
 use crate::packet::{Datagram, datagram_of, is_ours, is_routable, plain_ip4, require};
 use crate::step_out::StepOut;
 use crate::translator::Core;
 use aftr_base::{DropCause, Ext, InnerKey, Ip6, NoMemory, Packets, Proto, Side};
 use cfg_text::Config;
+use nat_mapping::Row;
 use softwire::encap;
 use std::alloc::Global;
 
@@ -81,7 +80,9 @@ impl Core {
 
     // the mapping that has this place
     fn mapping_at(&self, proto: Proto, ext: Ext) -> Option<&Row>
-        ensures { option_copied result ≡ find_in proto ext self.now.rows }
+        ensures there { IfSome result
+            (λ row. find_in proto ext self.now.rows ≡ Some (mapping_of row.now)) }
+        ensures none { IfNone result (find_in proto ext self.now.rows ≡ None) }
     {
         match self.table.find_in(proto, ext) {
             Some(id) => Some(self.table.row(id)),
@@ -91,7 +92,7 @@ impl Core {
 
     // the rules in their order
     fn admit_inbound<'a>(&self, bytes: &'a [u8]) -> Result<Admitted<'a>, DropCause>
-        ensures admitted { IfOk result (λ a. (row : Row) × (row.key ≡ a.key)
+        ensures admitted { IfOk result (λ a. (row : Mapping) × (row.key ≡ a.key)
             × (admitted_inbound self.now bytes.now ≡ Ok (a.datagram, row))) }
         ensures fits { IfOk result
             (λ a. 40 + a.datagram.header.fields.total ≤ self.now.config.softwire_mtu) }
@@ -121,7 +122,7 @@ impl Core {
         out: &mut StepOut,
     ) -> Result<(), NoMemory>
         requires { 40 + admitted.now.datagram.header.fields.total ≤ self.now.config.softwire_mtu }
-        ensures { OnOk result ((row : Row) → row.key ≡ admitted.now.key → HasStepped
+        ensures { OnOk result ((row : Mapping) → row.key ≡ admitted.now.key → HasStepped
             (sent_in self.now admitted.now.datagram row) out.old self.now out.new None) }
     {
         let bytes = self.delivered(alloc, admitted)?;
@@ -132,7 +133,7 @@ impl Core {
     // the datagram in the IPv6 packet that carries it
     fn delivered(&self, alloc: Global, admitted: &Admitted<'_>) -> Result<Vec<u8>, NoMemory>
         requires { 40 + admitted.now.datagram.header.fields.total ≤ self.now.config.softwire_mtu }
-        ensures bytes { IfOk result (λ v. (row : Row) → row.key ≡ admitted.now.key
+        ensures bytes { IfOk result (λ v. (row : Mapping) → row.key ≡ admitted.now.key
             → v.items ≡ delivered_bytes self.now admitted.now.datagram row) }
         ensures short { IfOk result (λ v. length v.items ≤ 65535) }
     {

@@ -2,19 +2,19 @@
 ghost use Rattle.std.specs.Prelude.{◌≡◌, Ok, Err, None, IfOk, IfErr, OnOk};
 ghost use Rattle.xlate_core.specs.Datagram.{key_of};
 ghost use Rattle.xlate_core.specs.Outbound.{drop_for, carried_to, inner_of, tunnelled, outward, outbound_of};
-ghost use Rattle.xlate_core.specs.Step.{admitted_outbound, mapped, outbound_step, sent_out, with_horizon};
+ghost use Rattle.nat_mapping.specs.Rows.{row_of};
+ghost use Rattle.xlate_core.specs.Step.{admitted_outbound, flow_of, mapped, outbound_step, sent_out, with_horizon};
 ghost use Rattle.xlate_core.specs.Stepped.{HasStepped};
-ghost use Rattle.xlate_core.specs.nat_mapping.Rows.{row_of};
 ghost use Rattle.wire_ip6.specs.Chain.{chain_in};
 
 use crate::grant::{Flow, Grant, Sender};
-use crate::nat_mapping::RowId;
 use crate::packet::{Datagram, datagram_of, has_route, is_ours, plain_ip4, require};
 use crate::step_out::StepOut;
 use crate::subscriber_table;
 use crate::translator::Core;
 use aftr_base::{DropCause, InnerKey, NoMemory, Side};
 use cfg_text::Config;
+use nat_mapping::RowId;
 use softwire::{DecapBad, Tunnel, decap};
 use std::alloc::Global;
 use std::marker::Model;
@@ -123,9 +123,7 @@ impl<'a> Outbound<'a> {
 
     // what a place is asked for
     fn flow(&self) -> Flow
-        ensures who { result.who ≡ self.now.who }
-        ensures key { result.key ≡ key_of self.now.who.softwire self.now.datagram }
-        ensures remote { result.remote ≡ self.now.datagram.header.fields.dst }
+        ensures { result ≡ flow_of self.now }
     {
         let source = self.datagram.place(true);
         Flow {
@@ -136,7 +134,8 @@ impl<'a> Outbound<'a> {
                 addr: source.addr,
                 port: source.port,
             },
-            remote: self.datagram.fields().dst,
+            remote: self.datagram.place(false),
+            flags: self.datagram.flags(),
         }
     }
 }
@@ -213,7 +212,7 @@ impl Core {
             .translated(alloc, true, admitted.grant.place)?;
         let item = self.item(Side::Public, Some(flow.who.owner), bytes);
         out.items.push(item)?;
-        self.keep(alloc, &flow, admitted.row, &admitted.grant)?;
+        self.keep(&flow, admitted.row, &admitted.grant)?;
         self.raise_horizon(&mut out.log)?;
         self.log_opening(&admitted.grant, &mut out.log)
     }

@@ -6,7 +6,7 @@ ghost use Rattle.aftr_base.specs.Plan.{tunnel_prefix};
 ghost use Rattle.aftr_base.specs.Value.{is_under4};
 ghost use Rattle.wire_l4.specs.Grammar.{transport_bytes};
 ghost use Rattle.wire_l4.specs.Places.{port_at, proto_of, replaced};
-ghost use Rattle.xlate_core.specs.Datagram.{datagram_bytes, place_on, translated};
+ghost use Rattle.xlate_core.specs.Datagram.{datagram_bytes, flags_of, place_on, translated};
 ghost use Rattle.xlate_core.specs.Packet.{plain_ip4, is_routable, has_route, datagram_of, udp_behind};
 ghost use Rattle.xlate_core.specs.State.{is_ours};
 
@@ -133,6 +133,14 @@ impl<'a> Datagram<'a> {
         ensures { result ≡ proto_of self.now.body }
     {
         self.proto
+    }
+
+    /// The control bits of its transport, which only TCP has.
+    pub(crate) fn flags(&self) -> u8
+        ensures { result ≡ flags_of self.now.body }
+    {
+        let _proto = self.proto;
+        0
     }
 
     /// Its source, or else its destination.

@@ -5,11 +5,11 @@ ghost use Rattle.cfg_text.specs.Accepted.{is_accepted};
 ghost use Rattle.xlate_core.specs.Run.{start as start_of};
 ghost use Rattle.xlate_core.specs.Valid.{is_closed, is_told_by};
 
-use crate::nat_mapping::Table;
-use crate::port_blocks::Blocks;
 use crate::translator::Core;
 use aftr_base::{List, Moment, NoMemory, PlanRow, Told};
 use cfg_text::Config;
+use nat_mapping::Table;
+use port_blocks::Blocks;
 use std::alloc::Global;
 
 impl Core {

@@ -1,7 +1,8 @@
 //! What a record gives.
 ghost use Rattle.std.specs.Prelude.{◌≡◌, []};
+ghost use Rattle.aftr_base.specs.Row.{block_event};
 
-use aftr_base::{List, LogEvent, Moment, Side, Subscriber};
+use aftr_base::{LeaseRow, List, LogEvent, Moment, Side, Subscriber};
 use std::alloc::Global;
 
 /// A packet that goes out.
@@ -41,5 +42,19 @@ impl StepOut {
     {
         self.items.clear();
         self.log.clear();
+    }
+}
+
+// what the log is told of a block that opens or closes at a moment
+pub(crate) fn block_event(opens: bool, at: Moment, lease: &LeaseRow) -> LogEvent
+    ensures { result ≡ block_event opens at.0 lease.now }
+{
+    LogEvent::Block {
+        opens,
+        owner: lease.owner,
+        addr: lease.addr,
+        first: lease.first,
+        last: lease.last,
+        at,
     }
 }

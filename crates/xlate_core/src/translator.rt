@@ -4,11 +4,11 @@ ghost use Rattle.aftr_base.specs.Limits.{moment_limit};
 ghost use Rattle.xlate_core.specs.Step.{dropped, item, refused_as_kind, step, treatment, with_horizon};
 ghost use Rattle.xlate_core.specs.Stepped.{HasStepped};
 
-use crate::nat_mapping::Table;
-use crate::port_blocks::Blocks;
 use crate::step_out::{Item, StepOut};
 use aftr_base::{DropCause, Event, EventKind, List, Moment, NoMemory, PlanRow, Side, Subscriber};
 use cfg_text::Config;
+use nat_mapping::Table;
+use port_blocks::Blocks;
 use std::alloc::Global;
 use std::marker::Model;
 
@@ -34,6 +34,7 @@ impl Model for Core {
     ghost use Rattle.cfg_text.specs.Accepted.{is_accepted};
     ghost use Rattle.xlate_core.specs.State.{State};
     ghost use Rattle.xlate_core.specs.Expiry.{has_idle};
+    ghost use Rattle.xlate_core.specs.Valid.{AreGranted};
 
     ghost Value = { State };
 
@@ -42,13 +43,14 @@ impl Model for Core {
       clock = c.clock.0;
       floor = c.floor.0;
       horizon = c.horizon.0;
-      rows = c.table;
-      leases = c.blocks;
+      rows = c.table.rows;
+      leases = c.blocks.rows;
       plans = c.plans;
     } };
 
     ghost invariant = { λ c. (is_accepted c.config ≡ true) × (c.clock.0 ≤ moment_limit)
-        × ((c.all_used && has_idle c.table c.blocks) ≡ false) };
+        × ((c.all_used && has_idle c.table.rows c.blocks.rows) ≡ false)
+        × AreGranted c.table.rows c.blocks.rows };
 }
 
 impl Core {

@@ -1,30 +1,31 @@
-use Rattle.std.proofs.Common.{sym, ap, ◌∙◌}
-use Rattle.xlate_core.specs.declared.nat_mapping.Search.{Search}
-use Rattle.xlate_core.proofs.Positions.{granted_there, granted_anew, item_at}
-use Rattle.xlate_core.proofs.Usages.{found_within, found_before}
+use Rattle.std.proofs.Common.{Option, sym, ap, ◌∙◌}
+use Rattle.nat_mapping.specs.declared.table.RowId.{RowId}
+use Rattle.nat_mapping.specs.Rows.{holding_of, searched}
+use Rattle.xlate_core.proofs.Positions.{found_row, granted_there, granted_anew}
 use Rattle.xlate_core.proofs.translator.Core.granted.Goals as goal
 
 pub kept_place-requires-clause-there : goal.kept_place-requires-clause-there
 kept_place-requires-clause-there c =
-    let f = c.args.flow.now in
-    found_within f.key f.who.owner c.args.self.now.rows c.args.found.now c.in-Some.id c.requires c.in-Some.is
+    (found_row c.args.flow.now.key c.args.self.now.rows c.in-Some.id (sym c.in-Some.is ∙ c.requires.row)).1
 
 pub kept_place-requires-clause-before : goal.kept_place-requires-clause-before
 kept_place-requires-clause-before c =
     let f = c.args.flow.now in
-    found_before f.key f.who.owner c.args.self.now.rows c.args.found.now c.in-Some.id c.requires c.in-Some.is
+    c.requires.before ∙ ap (λ (o : Option RowId). holding_of f.who.owner (searched o c.args.self.now.rows)) c.in-Some.is
+
+pub new_place-requires : goal.new_place-requires
+new_place-requires c =
+    let f = c.args.flow.now in
+    c.requires.before ∙ ap (λ (o : Option RowId). holding_of f.who.owner (searched o c.args.self.now.rows)) c.in-None.is
 
 pub returns-in-Some : goal.returns-in-Some
 returns-in-Some c =
     let f = c.args.flow.now in
     let s = c.args.self.now in
-    let id = c.in-Some.id in
-    let (r, lt, here) = item_at s.rows id.0 (found_within f.key f.who.owner s.rows c.args.found.now id c.requires c.in-Some.is) in
-    c.kept_place.ensures r here
-    ∙ granted_there s f.who f.key f.remote id r (sym c.in-Some.is ∙ ap (λ (x : Search). x.row) c.requires) here
+    let is = sym c.in-Some.is ∙ c.requires.row in
+    let (r, lt, here, found) = found_row f.key s.rows c.in-Some.id is in
+    c.kept_place.ensures r here ∙ granted_there s f c.in-Some.id r is here
 
 pub returns-in-None : goal.returns-in-None
 returns-in-None c =
-    let f = c.args.flow.now in
-    c.new_place.ensures
-    ∙ granted_anew c.args.self.now f.who f.key f.remote (sym c.in-None.is ∙ ap (λ (x : Search). x.row) c.requires)
+    c.new_place.ensures ∙ granted_anew c.args.self.now c.args.flow.now (sym c.in-None.is ∙ c.requires.row)

@@ -12,7 +12,7 @@ returns c =
     (λ opened. sent_so c.args.self.now c.keep.new.self c.raise_horizon.new.self c.args.admitted.now.got c.args.admitted.now.grant
     c.flow-flow.result c.args.out.now out' c.raise_horizon.new.log
     c.in_ok-bytes.bytes.items c.item-item.result
-    c.flow-flow.ensures.who c.flow-flow.ensures.key c.flow-flow.ensures.remote c.in_ok-keep.ensures c.item-item.ensures
+    c.flow-flow.ensures c.in_ok-keep.ensures c.item-item.ensures
     (c.in_ok-bytes.ensures.bytes
     ∙ ap (λ (d : Datagram). datagram_bytes
     (translated true c.args.admitted.now.grant.place d)) c.datagram.ensures)

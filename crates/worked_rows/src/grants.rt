@@ -1,0 +1,243 @@
+//! Which places packets leave from under small quotas and blocks, and which are refused.
+
+use crate::logs::LogFile;
+use crate::octets::{list_of, octets};
+use aftr_base::{Ip4, Prefix4};
+use aftr_engine::run_config;
+use cfg_text::Config;
+use plant_mem::{MemPlant, MemSink, NoFaultSource};
+use std::process::Abort;
+
+// The bytes of a frame with a sent packet of 32 bytes, and where its source stands in it.
+const SENT: usize = 45;
+
+const SOURCE: usize = 25;
+
+const PORT: usize = 33;
+
+// A run of packets without UDP checksums.
+#[derive(Drop)]
+struct Packets {
+    input: String,
+}
+
+impl Packets {
+    fn new<R: Abort + AllocGlobal>(rt: &R) -> Self {
+        Packets {
+            input: String::new(rt.alloc()),
+        }
+    }
+
+    // From this inner port of a subscriber to 203.0.113.(5 + remote), at a moment.
+    fn add<R: Abort + AllocGlobal>(
+        &mut self,
+        rt: &R,
+        at: u64,
+        subscriber: u16,
+        port: u16,
+        remote: u8,
+    ) {
+        let low = remote.saturating_add(5);
+        let checksum = 0x7ec4 - u16::from(remote);
+        let record = format!(in rt.alloc();
+            "00000051 01 {at:016x} 60000000 0020 04 40
+            20010db801{subscriber:04x}000000000000000002 20010db8000000000000000000000001
+            4500 0020 0001 0000 40 11 {checksum:04x} c0000002 cb0071{low:02x} {port:04x} 0035 000c 0000 61626364\n"
+        );
+        self.push(rt, record.expect(rt, "memory for a packet").as_str());
+    }
+
+    // A record that only tells the time.
+    fn add_tick<R: Abort + AllocGlobal>(&mut self, rt: &R, at: u64) {
+        let record = format!(in rt.alloc(); "00000009 03 {at:016x}\n");
+        self.push(rt, record.expect(rt, "memory for a tick").as_str());
+    }
+
+    fn push<R: Abort>(&mut self, rt: &R, text: &str) {
+        self.input.push_str(text).expect(rt, "memory for a text");
+    }
+}
+
+// Runs over packets and compares the report and the places that they left from: address and port.
+fn check_places<R: Abort + AllocGlobal>(
+    rt: &R,
+    config: Config,
+    packets: &Packets,
+    report: &str,
+    places: &[(u8, u16)],
+) {
+    assert!(rt; config.accepted(), "an accepted configuration");
+    assert_eq!(rt; config.ratio, 0);
+    let input = octets(rt, &[packets.input.as_str()]);
+    let mut inputs = [NoFaultSource::new(list_of(rt, &input))];
+    let log = LogFile::Frames(&[]).bytes(rt);
+    let mut plant = MemPlant::new(rt.alloc(), list_of(rt, &log), list_of(rt, &[]));
+    let mut sink = MemSink::new(rt.alloc(), list_of(rt, &[]));
+    let _outcome = run_config(rt.alloc(), config, &mut inputs, &mut plant, &mut sink);
+    assert_eq!(rt; str::from_utf8(sink.written()), Ok(report));
+    compare_places(rt, plant.sent(), places);
+}
+
+fn compare_places<R: Abort>(rt: &R, sent: &[u8], places: &[(u8, u16)]) {
+    let mut rest = sent;
+    for (addr, port) in places {
+        assert!(rt; rest.len() >= SENT, "a further packet");
+        let (packet, after) = rest.split_at(SENT);
+        assert_eq!(rt; packet[SOURCE + 3], *addr);
+        assert_eq!(rt; u16::from_be_bytes([packet[PORT], packet[PORT + 1]]), *port);
+        rest = after;
+    }
+    assert!(rt; rest.is_empty(), "no further packet");
+}
+
+fn defaults<R: Abort + AllocGlobal>(rt: &R) -> Config {
+    Config::defaults(rt.alloc()).expect(rt, "memory for a configuration")
+}
+
+// The addresses from 192.0.2.8 on, as many as a prefix of this length has.
+fn pool<R: Abort + AllocGlobal>(rt: &R, len: u8) -> Config {
+    let mut config = defaults(rt);
+    config.pool.clear();
+    let bits = Ip4(0xc000_0208);
+    config
+        .pool
+        .push(Prefix4 { bits, len })
+        .expect(rt, "memory for a prefix");
+    config
+}
+
+#[test]
+fn a_full_block_and_a_further_one(rt: HostRuntime) {
+    let mut config = defaults(&rt);
+    config.block_size = 16;
+    let mut packets = Packets::new(&rt);
+    for port in 5000..5017 {
+        packets.add(&rt, 1_000_000, 0, port, 0);
+    }
+    let mut places = Vec::new(rt.alloc());
+    for port in 1024..1041 {
+        places.push((8, port)).expect(&rt, "memory for a place");
+    }
+    let report = "records 17\nsent 17\nmarks 0\n";
+    check_places(&rt, config, &packets, report, &places);
+}
+
+#[test]
+fn one_block_at_the_most(rt: HostRuntime) {
+    let mut config = defaults(&rt);
+    config.block_size = 16;
+    config.max_blocks = 1;
+    let mut packets = Packets::new(&rt);
+    for port in 5000..5017 {
+        packets.add(&rt, 1_000_000, 0, port, 0);
+    }
+    // The last mapping that there is still leaves.
+    packets.add(&rt, 1_000_000, 0, 5015, 0);
+    let mut places = Vec::new(rt.alloc());
+    for port in 1024..1040 {
+        places.push((8, port)).expect(&rt, "memory for a place");
+    }
+    places.push((8, 1039)).expect(&rt, "memory for a place");
+    let report = "records 18\nsent 17\nmarks 0\ndrop QuotaBlocks 1\n";
+    check_places(&rt, config, &packets, report, &places);
+}
+
+#[test]
+fn two_mappings_at_the_most(rt: HostRuntime) {
+    let mut config = defaults(&rt);
+    config.max_mappings = 2;
+    let mut packets = Packets::new(&rt);
+    for port in [5000, 5001, 5002, 5000] {
+        packets.add(&rt, 1_000_000, 0, port, 0);
+    }
+    let report = "records 4\nsent 3\nmarks 0\ndrop QuotaMappings 1\n";
+    check_places(
+        &rt,
+        config,
+        &packets,
+        report,
+        &[(8, 1024), (8, 1025), (8, 1024)],
+    );
+}
+
+#[test]
+fn two_peers_at_the_most(rt: HostRuntime) {
+    let mut config = defaults(&rt);
+    config.max_peers = 2;
+    let mut packets = Packets::new(&rt);
+    for remote in [0, 1, 2, 1] {
+        packets.add(&rt, 1_000_000, 0, 5000, remote);
+    }
+    // A new mapping would have a peer as well.
+    packets.add(&rt, 1_000_000, 0, 5001, 0);
+    let report = "records 5\nsent 3\nmarks 0\ndrop QuotaPeers 2\n";
+    check_places(
+        &rt,
+        config,
+        &packets,
+        report,
+        &[(8, 1024), (8, 1024), (8, 1024)],
+    );
+}
+
+// Each of an address's 126 blocks has a subscriber, of whom the first fills its own.
+#[test]
+fn an_address_without_a_free_block(rt: HostRuntime) {
+    let mut packets = Packets::new(&rt);
+    let mut places = Vec::new(rt.alloc());
+    for block in 0..126 {
+        packets.add(&rt, 1_000_000, block, 5000, 0);
+        places
+            .push((8, 1024 + 512 * block))
+            .expect(&rt, "memory for a place");
+    }
+    for port in 1..512 {
+        packets.add(&rt, 1_000_000, 0, 5000 + port, 0);
+        places
+            .push((8, 1024 + port))
+            .expect(&rt, "memory for a place");
+    }
+    packets.add(&rt, 1_000_000, 0, 5512, 0);
+    // Another one has a block on the next address.
+    packets.add(&rt, 1_000_000, 126, 5000, 0);
+    places.push((9, 1024)).expect(&rt, "memory for a place");
+    let report = "records 639\nsent 638\nmarks 0\ndrop AddressFull 1\n";
+    check_places(&rt, pool(&rt, 31), &packets, report, &places);
+}
+
+// Three subscribers have the three blocks, of whom the first falls silent.
+fn three_blocks<R: Abort + AllocGlobal>(rt: &R) -> (Config, Packets) {
+    let mut config = pool(rt, 32);
+    config.block_size = 16384;
+    let mut packets = Packets::new(rt);
+    packets.add(rt, 1_000_000, 0, 5000, 0);
+    packets.add(rt, 1_000_001, 1, 5000, 0);
+    packets.add(rt, 1_000_002, 2, 5000, 0);
+    packets.add(rt, 1_290_000, 1, 5000, 0);
+    packets.add(rt, 1_290_000, 2, 5000, 0);
+    packets.add_tick(rt, 1_300_000);
+    (config, packets)
+}
+
+const THREE: [(u8, u16); 5] = [(8, 1024), (8, 17408), (8, 33792), (8, 17408), (8, 33792)];
+
+#[test]
+fn a_closed_block_is_held_from_others(rt: HostRuntime) {
+    let (config, mut packets) = three_blocks(&rt);
+    packets.add(&rt, 1_419_999, 3, 5000, 0);
+    packets.add(&rt, 1_420_000, 3, 5000, 0);
+    let mut places = THREE.to_vec(rt.alloc()).expect(&rt, "memory for places");
+    places.push((8, 1024)).expect(&rt, "memory for a place");
+    let report = "records 8\nsent 6\nmarks 0\ndrop PoolEmpty 1\n";
+    check_places(&rt, config, &packets, report, &places);
+}
+
+#[test]
+fn its_last_holder_has_it_back(rt: HostRuntime) {
+    let (config, mut packets) = three_blocks(&rt);
+    packets.add(&rt, 1_300_001, 0, 5000, 0);
+    let mut places = THREE.to_vec(rt.alloc()).expect(&rt, "memory for places");
+    places.push((8, 1024)).expect(&rt, "memory for a place");
+    let report = "records 7\nsent 6\nmarks 0\n";
+    check_places(&rt, config, &packets, report, &places);
+}
