@@ -27,13 +27,12 @@ use Rattle.aftr_base.specs.declared.value.Subscriber.{Subscriber}
 use Rattle.aftr_base.proofs.Founds.{some_inj}
 use Rattle.aftr_base.proofs.Pairwise.{zip_same}
 use Rattle.cfg_text.specs.Accepted.{is_accepted}
-use Rattle.xlate_core.specs.Expiry.{Closed, at_moment, closing_limit, with_idle_ended}
+use Rattle.nat_mapping.specs.Rows.{Mapping, expired}
+use Rattle.xlate_core.specs.Expiry.{Closed, Idle, Lasts, MayEnd, at_moment, closing_limit, with_idle_ended}
 use Rattle.xlate_core.specs.Run.{start, told_of}
 use Rattle.xlate_core.specs.State.{State}
 use Rattle.xlate_core.specs.Step.{log_of, step}
 use Rattle.xlate_core.specs.Valid.{AreDisjoint, IsReached, KeepsTold}
-use Rattle.xlate_core.specs.declared.nat_mapping.Row.{Row}
-use Rattle.xlate_core.specs.nat_mapping.Rows.{expired}
 use Rattle.xlate_core.proofs.Clock.{by_moment}
 use Rattle.xlate_core.proofs.Disjoint.{disjoint_run, valid_from}
 use Rattle.xlate_core.proofs.Holders.{holders, holds as holds_it, holds_parts}
@@ -42,7 +41,7 @@ use Rattle.xlate_core.proofs.LogTells.{step_ahead, step_horizon, step_told}
 use Rattle.xlate_core.proofs.Openings.{IsNew, before_of, opens_step}
 use Rattle.xlate_core.proofs.PacketSources.{kept_named, kept_step}
 use Rattle.xlate_core.proofs.Reached.{reached_from}
-use Rattle.xlate_core.proofs.ValidExpiry.{Idle, Lasts, MayEnd, idle_end, idle_open}
+use Rattle.xlate_core.proofs.ValidExpiry.{idle_end, idle_open}
 use Rattle.xlate_core.proofs.ValidStates.{run_clock_most}
 use Rattle.xlate_core.proofs.Zips.{zip_weaker}
 use Rattle.trace_query.specs.Names.{holds, names_of}
@@ -80,7 +79,7 @@ record HasEnded (s t : State) : Type 0 where
   clock : s.clock ≤ t.clock
   became : AllZip (EndsOnce t.clock) s.leases t.leases
 
-ends_once : (now : ℕ) (rows : List Row) (l m : LeaseRow) → MayEnd now rows l m → EndsOnce now l m
+ends_once : (now : ℕ) (rows : List Mapping) (l m : LeaseRow) → MayEnd now rows l m → EndsOnce now l m
 ends_once now rows l m (Lasts same) = StaysOn same
 ends_once now rows l m (Idle idle same) = EndsNow (idle_open rows l idle) same
 
