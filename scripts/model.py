@@ -14,7 +14,7 @@ import struct
 import sys
 from collections import Counter
 from dataclasses import dataclass, field
-from typing import Dict, List, NamedTuple, Optional, Tuple
+from typing import Dict, Iterable, List, NamedTuple, Optional, Tuple
 
 import log_form
 from log_form import LAST_MOMENT, Batch, Damaged, Lease, Log, LogFull, Place, Prefix, Row, Told
@@ -28,7 +28,7 @@ BLOCK_SIZE = 512
 FIRST_PORTS = range(1024, 65536 - BLOCK_SIZE + 1, BLOCK_SIZE)
 IDLE = 300_000  # how long a UDP peer is kept (RFC 4787 4.3 asks for two minutes at least)
 HOLD = 120_000  # how long a closed block is kept from other subscribers (RFC 6888 3, REQ-8)
-MAX_PEERS = 16_384
+MAX_MAPPINGS, MAX_PEERS, MAX_BLOCKS = 4_096, 16_384, 8  # of one subscriber (RFC 6888 3, REQ-4)
 MAX_CLOSINGS = 512  # at one moment; the pool has 504 blocks, so no run comes to it
 FRAME_CLOSINGS = 1024  # in one frame of a recovery
 SOFTWIRE_MTU = PUBLIC_MTU = 1500
@@ -41,7 +41,7 @@ MORE_FRAGMENTS, FRAGMENT_OFFSET, DONT_FRAGMENT = 0x2000, 0x1FFF, 0x4000
 # The causes that are given today, in the order of the report.
 CAUSES = (
     "Settling BadPacket NotUs NotTunnel UnknownSubscriber Options NoRoute NoProtocol TtlSpent TooBig "
-    "QuotaPeers QuotaBlocks PoolEmpty NoMapping BadChange"
+    "QuotaMappings QuotaPeers QuotaBlocks AddressFull PoolEmpty NoMapping BadChange"
 ).split()
 
 Files = Dict[str, bytes]
@@ -329,31 +329,39 @@ class Translator:
         require(len(whole) <= SOFTWIRE_MTU, "NoProtocol")
         self.send(SOFTWIRE, whole)
 
+    def rows_of(self, owner: Prefix) -> List[Mapping]:
+        return [row for inner, row in self.mappings.items() if subscriber_of(inner.softwire) == owner]
+
     def peers_of(self, owner: Prefix) -> int:
-        return sum(len(row.deadlines) for inner, row in self.mappings.items() if subscriber_of(inner.softwire) == owner)
+        return sum(len(row.deadlines) for row in self.rows_of(owner))
 
     def new_place(self, owner: Prefix) -> Place:
-        """The least free port of the subscriber's open block, or the first of a block that it gets now."""
+        """The least free port of the subscriber's open blocks, in order of opening, or the first of a further block."""
+        require(len(self.rows_of(owner)) < MAX_MAPPINGS, "QuotaMappings")
+        require(self.peers_of(owner) < MAX_PEERS, "QuotaPeers")
         used = {mapping.place for mapping in self.mappings.values()}
-        for lease in self.leases:
-            if lease.owner == owner and lease.until is None:
-                for port in range(lease.first, lease.last + 1):
-                    if Place(lease.address, port) not in used:
-                        return Place(lease.address, port)
-                raise Drop("QuotaBlocks")
-        return self.new_lease(owner)
+        own = [lease for lease in self.leases if lease.owner == owner and lease.until is None]
+        for lease in own:
+            for port in range(lease.first, lease.last + 1):
+                if Place(lease.address, port) not in used:
+                    return Place(lease.address, port)
+        require(len(own) < MAX_BLOCKS, "QuotaBlocks")
+        if own:
+            return self.new_lease(owner, [own[0].address], "AddressFull")
+        return self.new_lease(owner, POOL, "PoolEmpty")
 
-    def new_lease(self, owner: Prefix) -> Place:
+    def new_lease(self, owner: Prefix, addresses: Iterable[int], without: str) -> Place:
+        """The first port of the first free block of these addresses, which the subscriber has from now on."""
         in_the_way = [lease for lease in self.leases if not self.is_over(lease, owner)]
         taken = {block for lease in in_the_way for block in blocks_under(lease)}
-        for address in POOL:
+        for address in addresses:
             for first in FIRST_PORTS:
                 if (address, first) not in taken:
                     lease = Lease(owner, address, first, first + BLOCK_SIZE - 1, self.clock)
                     self.leases.append(lease)
                     self.batch.openings.append(lease)
                     return Place(address, first)
-        raise Drop("PoolEmpty")
+        raise Drop(without)
 
     def is_over(self, lease: Lease, owner: Prefix) -> bool:
         """Whether a lease stands in this subscriber's way no more: its own ones don't wait for the hold time."""

@@ -222,23 +222,29 @@ def sent_to(remotes: int) -> List[bytes]:
 
 
 def refused_grants() -> Iterator[Refusal]:
-    """What finds no place. A block has 512 ports, the pool 504 blocks, and a subscriber 16,384 peers."""
+    """What finds no place. A block has 512 ports, an address 126 blocks, the pool 504, and a subscriber 4,096 mappings and
+    16,384 peers at the most. Its mappings all fit into the eight blocks that it may have."""
 
     def last(name: str, before: List[bytes], cause: str, udp: Changes, subscriber: int = 0) -> Refusal:
         body = Softwire(Udp(**udp).spelled(), source=softwire_of(subscriber)).spelled()
         return Refusal(f"out: {name}", [*before, frame(FROM_SOFTWIRE, MOMENT, body)], cause)
 
     full_block, full_pool, all_peers = granted(1, 512), granted(504), sent_to(16_384)
+    all_mappings, full_address = granted(1, 4096), granted(126) + full_block[1:]
     other_port: Changes = {"source_port": 512}
+    last_port: Changes = {"source_port": 4096}
     to_pool: Changes = {"destination": quad("192.0.2.8")}
-    yield last("a full block", full_block, "QuotaBlocks", other_port)
-    yield last("a full block, to the pool", full_block, "NoProtocol", {**other_port, **to_pool})
-    yield last("a full block, may not be cut", full_block, "TooBig", {**other_port, **TOO_LONG})
-    yield last("a full block, would be cut", full_block, "NoProtocol", {**other_port, **TOO_LONG, "fragment": 0})
+    yield last("all mappings", all_mappings, "QuotaMappings", last_port)
+    yield last("all mappings, to the pool", all_mappings, "NoProtocol", {**last_port, **to_pool})
+    yield last("all mappings, may not be cut", all_mappings, "TooBig", {**last_port, **TOO_LONG})
+    yield last("all mappings, would be cut", all_mappings, "NoProtocol", {**last_port, **TOO_LONG, "fragment": 0})
+    yield last("a full address", full_address, "AddressFull", other_port)
+    yield last("a full address, to the pool", full_address, "NoProtocol", {**other_port, **to_pool})
     yield last("a full pool", full_pool, "PoolEmpty", {}, 504)
     yield last("a full pool, to the pool", full_pool, "NoProtocol", to_pool, 504)
-    yield last("a full block and a full pool", full_pool + full_block[1:], "QuotaBlocks", other_port)
+    yield last("a full block and a full pool", full_pool + full_block[1:], "AddressFull", other_port)
     yield last("all peers", all_peers, "QuotaPeers", {"destination": quad("203.0.64.0")})
+    yield last("all peers, from another port", all_peers, "QuotaPeers", other_port)
     yield last("all peers, may not be cut", all_peers, "TooBig", TOO_LONG)
 
 
