@@ -9,13 +9,12 @@ use Rattle.aftr_base.specs.Attempt.{require}
 use Rattle.aftr_base.specs.Bytes.{be16, be32, be128}
 use Rattle.aftr_base.specs.declared.value.Ext.{Ext}
 use Rattle.aftr_base.specs.declared.value.Proto.{Proto}
-use Rattle.aftr_base.specs.declared.value.Proto.TheVariants.{Udp}
 use Rattle.wire_ip4.specs.Grammar.{Header, header_bytes}
 use Rattle.wire_ip6.specs.declared.fields.Ip6Fields.{Ip6Fields}
 use Rattle.wire_ip6.specs.Grammar.{header_bytes as tunnel_header}
-use Rattle.wire_l4.specs.Grammar.{Transport, Ports, Segment, segment_at, transport_bytes, transport_in}
+use Rattle.wire_l4.specs.Grammar.{Transport, transport_bytes, transport_in}
 use Rattle.wire_l4.specs.Places.{replaced}
-use Rattle.xlate_core.specs.Packet.{udp_behind}
+use Rattle.xlate_core.specs.Packet.{transport_behind}
 
 -- ---- tests that passed
 
@@ -73,23 +72,20 @@ whole_len h payload bytes bare so =
     ap (λ (l : List ℕ). length l) so ∙ length-append (header_bytes h) payload ∙ ap (λ (n : ℕ). n + length payload) (head_len h bare)
 
 -- what the code reads behind the header is the datagram's transport
-pub transport_behind : (h : Header) (payload bytes : List ℕ) (proto : Proto) (segment : Segment) → h.options ≡ []
-    → bytes ≡ header_bytes h ++ payload
-    → proto ≡ Udp → segment ≡ segment_at 6 payload → udp_behind bytes ≡ Ports proto segment
-transport_behind h payload bytes proto segment bare so udp held =
-    ap (λ (l : List ℕ). transport_in Udp l) (behind_is h payload bytes bare so)
-    ∙ ap (λ (p : Proto). Ports p (segment_at 6 payload)) (sym udp) ∙ ap (λ (s : Segment). Ports proto s) (sym held)
+pub transport_there : (h : Header) (payload bytes : List ℕ) (proto : Proto) → h.options ≡ [] → bytes ≡ header_bytes h ++ payload
+    → transport_behind proto bytes ≡ transport_in proto payload
+transport_there h payload bytes proto bare so = ap (transport_in proto) (behind_is h payload bytes bare so)
 
 -- the packet that was written
-pub written : (h : Header) (payload bytes made : List ℕ) (n : ℕ) (source : Bool) (old place new : Ext) (body : Transport)
-    → h.options ≡ [] → bytes ≡ header_bytes h ++ payload → udp_behind bytes ≡ body → old ≡ place
-    → made ≡ take 20 bytes ++ transport_bytes (replaced source old new (udp_behind bytes)) → n ≡ length made
-    → take n (made ++ drop (length made) bytes) ≡ header_bytes h ++ transport_bytes (replaced source place new body)
-written h payload bytes made n source old place new body bare so inside same put len =
+pub written : (h : Header) (payload bytes made : List ℕ) (n : ℕ) (proto : Proto) (source : Bool) (old place new : Ext) → h.options ≡ []
+    → bytes ≡ header_bytes h ++ payload → old ≡ place
+    → made ≡ take 20 bytes ++ transport_bytes (replaced source old new (transport_behind proto bytes)) → n ≡ length made
+    → take n (made ++ drop (length made) bytes) ≡ header_bytes h ++ transport_bytes (replaced source place new (transport_in proto payload))
+written h payload bytes made n proto source old place new bare so same put len =
     all_written n made bytes len ∙ put
-    ∙ ap (λ (l : List ℕ). l ++ transport_bytes (replaced source old new (udp_behind bytes))) (front_is h payload bytes bare so)
-    ∙ ap (λ (t : Transport). header_bytes h ++ transport_bytes (replaced source old new t)) inside
-    ∙ ap (λ (e : Ext). header_bytes h ++ transport_bytes (replaced source e new body)) same
+    ∙ ap (λ (l : List ℕ). l ++ transport_bytes (replaced source old new (transport_behind proto bytes))) (front_is h payload bytes bare so)
+    ∙ ap (λ (t : Transport). header_bytes h ++ transport_bytes (replaced source old new t)) (transport_there h payload bytes proto bare so)
+    ∙ ap (λ (e : Ext). header_bytes h ++ transport_bytes (replaced source e new (transport_in proto payload))) same
 
 -- ---- before an IPv6 header
 

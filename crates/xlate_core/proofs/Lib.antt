@@ -1,6 +1,7 @@
 pub mod Attempts
 pub mod Clock
 pub mod Closings
+pub mod Connections
 pub mod Datagrams
 pub mod Disjoint
 pub mod Holders
@@ -11,6 +12,7 @@ pub mod LogNumbers
 pub mod LogTells
 pub mod Middles
 pub mod Openings
+pub mod Owns
 pub mod PacketSources
 pub mod Packets
 pub mod Passed
@@ -21,6 +23,7 @@ pub mod Sending
 pub mod Settings
 pub mod SoleItems
 pub mod Tellings
+pub mod Transports
 pub mod Treatments
 pub mod ValidExpiry
 pub mod ValidForwards

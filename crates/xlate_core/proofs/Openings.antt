@@ -39,7 +39,15 @@ pub opens_treated : (s : State) (bytes : List ℕ) (kind : EventKind) → is_acc
 opens_treated s bytes kind ok = by_way (Opens s) s bytes kind (record {
   rests = opens_none s _ refl refl refl;
   drops = λ cause. opens_none s _ refl refl refl;
-  delivers = λ d row by. opens_none s _ refl refl refl;
+  delivers = λ d row by. record {
+    config = refl;
+    clock = refl;
+    closings = refl;
+    lease = None;
+    openings = refl;
+    leases = sym (append-nil s.leases);
+    new = tt;
+  };
   forwards = λ got g by. record {
     config = refl;
     clock = refl;

@@ -6,7 +6,7 @@ use Rattle.aftr_base.specs.declared.value.Ip6.{Ip6}
 use Rattle.aftr_base.specs.declared.value.Subscriber.{Subscriber}
 use Rattle.aftr_base.specs.declared.event.EventKind.{EventKind}
 use Rattle.aftr_base.specs.declared.event.DropCause.{DropCause}
-use Rattle.aftr_base.specs.declared.event.DropCause.TheVariants.{Settling, Snapped as SnappedCause, BadPacket, NoProtocol, NoMapping}
+use Rattle.aftr_base.specs.declared.event.DropCause.TheVariants.{Settling, Snapped as SnappedCause, BadPacket, NoProtocol, NoMapping, Filtered}
 use Rattle.aftr_base.specs.declared.event.DropCause.TheVariants.{BadChange}
 use Rattle.aftr_base.specs.declared.event.EventKind.TheVariants.{Softwire, Public, Tick, Change, Snapped, Foreign, Stray}
 use Rattle.cfg_text.specs.declared.config.Config.{Config}
@@ -23,6 +23,8 @@ use Rattle.xlate_core.specs.Inbound.{inbound_of}
 use Rattle.xlate_core.specs.Step.{treatment, mapped, admitted_outbound, admitted_inbound, sent_out, sent_in, dropped, quiet}
 use Rattle.wire_l4.specs.Places.{proto_of}
 use Rattle.aftr_base.proofs.Founds.{found_in}
+use Rattle.cfg_text.specs.Accepted.{by_address}
+use Rattle.nat_filter.specs.Admits.{admits as lets_in}
 use Rattle.xlate_core.proofs.Attempts.{gave, step_gave, test_passed, was_there, went, ok_inj}
 
 -- ---- what was received
@@ -75,6 +77,7 @@ pub record IsIn (s : State) (bytes : List ℕ) (d : Datagram) (row : Mapping) : 
   pub settled : s.floor < s.clock
   pub admits : inbound_of s.config bytes ≡ Ok d
   pub finds : find_in (proto_of d.body) (place_on false d) s.rows ≡ Some row
+  pub filters : lets_in row d.header.fields.src (by_address s.config) ≡ true
   pub fits : 40 + d.header.fields.total ≤ s.config.softwire_mtu
 
 -- what holds of each row holds of it
@@ -105,23 +108,27 @@ is_in s bytes d row h =
     let (late, inside) = test_passed (nat_lt s.floor s.clock) Settling _ (datagram_by d row) h in
     let (x, admits, next) = step_gave (inbound_of s.config bytes) _ (datagram_by d row) inside in
     let (r, found, next') = step_gave (ok_or (find_in (proto_of x.body) (place_on false x) s.rows) NoMapping) _ (datagram_by d row) next in
-    let (fits, same) = test_passed (nat_le (40 + x.header.fields.total) s.config.softwire_mtu) NoProtocol _ (datagram_by d row) next' in
+    let (filters, next2) = test_passed (lets_in r x.header.fields.src (by_address s.config)) Filtered _ (datagram_by d row) next' in
+    let (fits, same) = test_passed (nat_le (40 + x.header.fields.total) s.config.softwire_mtu) NoProtocol _ (datagram_by d row) next2 in
     let is : datagram_by x r ≡ datagram_by d row = ok_inj (datagram_by x r) (datagram_by d row) _ refl same in
     subst (λ (z : Datagram × Mapping). IsIn s bytes z.0 z.1) is (record {
       settled = ltb-true s.floor s.clock late;
       admits = admits;
       finds = was_there (find_in (proto_of x.body) (place_on false x) s.rows) NoMapping r found;
+      filters = filters;
       fits = leb-true (40 + x.header.fields.total) s.config.softwire_mtu fits;
     })
 
 -- a record that passes each rule
 pub admits_in : (s : State) (bytes : List ℕ) (d : Datagram) (row : Mapping) → nat_lt s.floor s.clock ≡ true
     → inbound_of s.config bytes ≡ Ok d → find_in (proto_of d.body) (place_on false d) s.rows ≡ Some row
+    → lets_in row d.header.fields.src (by_address s.config) ≡ true
     → nat_le (40 + d.header.fields.total) s.config.softwire_mtu ≡ true → admitted_inbound s bytes ≡ Ok (datagram_by d row)
-admits_in s bytes d row late admits found fits =
-    went (nat_lt s.floor s.clock) Settling _ late ∙ gave (inbound_of s.config bytes) _ d admits
+admits_in s bytes d row late from found filters fits =
+    went (nat_lt s.floor s.clock) Settling _ late ∙ gave (inbound_of s.config bytes) _ d from
     ∙ gave (ok_or (find_in (proto_of d.body) (place_on false d) s.rows) NoMapping) _ row
     (ap (λ (o : Option Mapping). ok_or o NoMapping) found)
+    ∙ went (lets_in row d.header.fields.src (by_address s.config)) Filtered _ filters
     ∙ went (nat_le (40 + d.header.fields.total) s.config.softwire_mtu) NoProtocol _ fits
 
 -- ---- the ways of a treatment

@@ -1,5 +1,5 @@
 -- A consistent state stays so as a row is touched or made, and as a lease opens.
-use Rattle.std.proofs.Common.{◌≡◌, ℕ, Bool, true, false, ◌&&◌, ◌||◌, ◌==◌, List, [], ◌∷◌, ◌++◌, get_or, Some, None, All, refl, ap, ◌∙◌}
+use Rattle.std.proofs.Common.{◌≡◌, ℕ, zero, suc, Bool, true, false, ◌&&◌, ◌||◌, ◌==◌, List, [], ◌∷◌, ◌++◌, get_or, Some, None, All, refl, ap, ◌∙◌}
 use Rattle.std.proofs.Common.{arith, ap₂}
 use Rattle.std.specs.Prelude.{if◌then◌else◌}
 use Rattle.std.specs.List.{AllZip, list_any}
@@ -16,7 +16,7 @@ use Rattle.aftr_base.specs.declared.value.Subscriber.{Subscriber}
 use Rattle.aftr_base.specs.declared.row.LeaseRow.{LeaseRow}
 use Rattle.nat_mapping.specs.Rows.{Mapping}
 use Rattle.nat_mapping.specs.declared.row.Peer.{Peer}
-use Rattle.nat_mapping.specs.Rows.{is_at, with_peer}
+use Rattle.nat_mapping.specs.Rows.{is_at, touched_at, with_peer}
 use Rattle.xlate_core.specs.Rows.{touched}
 use Rattle.xlate_core.specs.subscriber_table.Under.{subscriber_of}
 use Rattle.xlate_core.specs.State.{State, latest}
@@ -93,6 +93,17 @@ alike_same x y u v z w h =
     ∙ ap (λ (k : InnerKey). alike_at x.key x.ext k v.ext) w.0
     ∙ ap (λ (e : Ext). alike_at x.key x.ext y.key e) w.2
     ∙ h
+
+pub rows_touched_at : (at : ℕ) (p : Peer) (rows : List Mapping) → AllZip SameRow rows (touched_at at p rows)
+rows_touched_at at p [] = tt
+rows_touched_at zero p (r ∷ rows) = (row_kept r, zip_same SameRow row_kept rows)
+rows_touched_at (suc at) p (r ∷ rows) = (row_kept r, rows_touched_at at p rows)
+
+pub granted_touched_at : (leases : List LeaseRow) (at : ℕ) (p : Peer) (rows : List Mapping) → AreGranted rows leases
+    → AreGranted (touched_at at p rows) leases
+granted_touched_at leases at p rows h =
+    let granted = λ (r : Mapping). list_any (lies_in_lease r) leases ≡ true in
+    all_zip SameRow granted granted (lies_same leases) rows (touched_at at p rows) (rows_touched_at at p rows) h
 
 -- rows that lie in open leases do so with other peers
 pub granted_touched : (leases : List LeaseRow) (key : InnerKey) (p : Peer) (rows : List Mapping) → AreGranted rows leases

@@ -1,5 +1,5 @@
 -- Every state that a run comes to is consistent.
-use Rattle.std.proofs.Common.{◌≡◌, ℕ, ◌≤◌, true, List, [], ◌∷◌, All, get_or, max, refl, sym, ◌∙◌, subst, arith}
+use Rattle.std.proofs.Common.{◌≡◌, ℕ, ◌≤◌, true, List, [], ◌∷◌, Option, Some, None, All, get_or, max, refl, sym, ◌∙◌, subst, arith}
 use Rattle.std.proofs.lemmas.List.Elements.{All-nil, All-head, All-tail}
 use Rattle.aftr_base.specs.declared.event.Event.{Event}
 use Rattle.aftr_base.specs.declared.event.EventKind.{EventKind}
@@ -12,13 +12,16 @@ use Rattle.xlate_core.specs.Outbound.{Outbound}
 use Rattle.xlate_core.specs.State.{State, Step, latest}
 use Rattle.xlate_core.specs.Expiry.{at_moment}
 use Rattle.xlate_core.specs.Valid.{IsConsistent, IsStart, is_granted, is_owned, is_lease_by}
-use Rattle.xlate_core.specs.Step.{flow_of, step, treatment}
+use Rattle.xlate_core.specs.Step.{flow_of, moved_peer, step, treatment}
+use Rattle.xlate_core.specs.Rows.{touched}
+use Rattle.nat_mapping.specs.declared.row.Peer.{Peer}
+use Rattle.aftr_base.specs.declared.value.InnerKey.{InnerKey}
 use Rattle.xlate_core.specs.Run.{run, start}
 use Rattle.xlate_core.proofs.Clock.{config_stays, floor_stays, moment_clock}
 use Rattle.xlate_core.proofs.ValidExpiry.{closed_first, consistent_moment}
 use Rattle.xlate_core.proofs.ValidForwards.{consistent_grant}
 use Rattle.xlate_core.proofs.ValidGrants.{IsGrant}
-use Rattle.xlate_core.proofs.ValidRows.{consistent_horizon}
+use Rattle.xlate_core.proofs.ValidRows.{consistent_horizon, consistent_touched}
 use Rattle.xlate_core.proofs.Treatments.{IsOut, by_way}
 
 pub consistent_start : {c : Config} {t : Told} → IsStart c t → IsConsistent (start c t)
@@ -56,12 +59,18 @@ pub grant_out : {s : State} {bytes : List ℕ} {got : Outbound} {g : Grant} → 
     → IsGrant s (flow_of got) g
 grant_out ok by = record { accepted = ok; owns = by.owns; grants = by.grants }
 
+-- whether a connection's state moves or not
+consistent_by : (s : State) (key : InnerKey) (o : Option Peer) → IsConsistent s
+    → IsConsistent (record s { rows = elim o [ None ↦ s.rows | Some p ↦ touched key p s.rows ] })
+consistent_by s key None v = v
+consistent_by s key (Some p) v = consistent_touched s key p v
+
 pub consistent_treated : (s : State) (bytes : List ℕ) (kind : EventKind) → is_accepted s.config ≡ true → IsConsistent s
     → IsConsistent (treatment s kind bytes).state
 consistent_treated s bytes kind ok v = by_way (λ (t : Step). IsConsistent t.state) s bytes kind (record {
   rests = v;
   drops = λ cause. v;
-  delivers = λ d r by. v;
+  delivers = λ d r by. consistent_by s r.key (moved_peer s.config s.clock d r.peers) v;
   forwards = λ got g by. consistent_grant (grant_out ok by) v;
 })
 

@@ -8,18 +8,19 @@ use Rattle.aftr_base.specs.Bytes.{be16, be32, be128, u8_at, u16_at}
 use Rattle.aftr_base.specs.Checksum.{is_sound, adjusted}
 use Rattle.aftr_base.specs.declared.value.Ip6.{Ip6}
 use Rattle.aftr_base.specs.declared.value.Ext.{Ext}
-use Rattle.aftr_base.specs.declared.value.Proto.TheVariants.{Udp}
+use Rattle.aftr_base.specs.declared.value.Proto.{Proto}
 use Rattle.aftr_base.specs.declared.event.DropCause.TheVariants.{BadPacket}
 use Rattle.cfg_text.specs.declared.config.Config.{Config}
 use Rattle.softwire.specs.Tunnel.{tunnel_packet}
 use Rattle.wire_ip4.specs.Grammar.{Header, header_bytes, header_of, front_of, len_of, is_piece, packet_of as ip4_packet}
-use Rattle.wire_l4.specs.Grammar.{Segment, Echo, Transport, Ports, Query, segment_bytes, segment_at, sum_bytes, transport_bytes, udp_of}
+use Rattle.wire_l4.specs.Grammar.{Segment, Echo, Transport, Ports, Query, segment_bytes, segment_at, sum_bytes, transport_bytes, transport_of}
 use Rattle.wire_l4.specs.Places.{replaced, segment_sum}
 use Rattle.xlate_core.specs.State.{is_ours}
 use Rattle.xlate_core.specs.Datagram.{Datagram, datagram_bytes, translated, place_on}
-use Rattle.xlate_core.specs.Packet.{plain_ip4, datagram_of, has_route, is_routable}
+use Rattle.xlate_core.specs.Packet.{plain_ip4, proto_from, datagram_of, has_route, is_routable}
 use Rattle.xlate_core.specs.Outbound.{outward}
 use Rattle.xlate_core.specs.Inbound.{inbound_of}
+use Rattle.xlate_core.proofs.Transports.{IsRead, is_read}
 use Rattle.xlate_core.proofs.Attempts.{step_gave, test_passed, gave_anyway, ok_inj}
 
 -- ---- an IPv4 packet
@@ -93,50 +94,51 @@ length_segment : (s : Segment) → length (segment_bytes s) ≡ 4 + length s.fix
 unfolding be16
 length_segment s = omega (arith, length-append (s.fixed ++ sum_bytes s.sum) s.rest, length-append s.fixed (sum_bytes s.sum))
 
-length_read : (bytes : List ℕ) → 8 ≤ length bytes → length (segment_bytes (segment_at 6 bytes)) ≡ length bytes
-length_read bytes long =
-    let whole = length_segment (segment_at 6 bytes) in
-    let sum : length (sum_bytes (segment_at 6 bytes).sum) ≡ 2 = length_word (u16_at 6 bytes) in
-    omega (arith, whole, sum, length-take 2 (drop 4 bytes), length-drop 4 bytes, length-drop 8 bytes, long)
+length_read : (at : ℕ) (bytes : List ℕ) → 4 ≤ at → at + 2 ≤ length bytes
+    → length (segment_bytes (segment_at at bytes)) ≡ length bytes
+length_read at bytes least most =
+    let whole = length_segment (segment_at at bytes) in
+    let sum : length (sum_bytes (segment_at at bytes).sum) ≡ 2 = length_word (u16_at at bytes) in
+    omega (arith, whole, sum, length-take (at - 4) (drop 4 bytes), length-drop 4 bytes, length-drop (at + 2) bytes, least, most)
 
--- a UDP datagram that came whole, in a packet without options that may be forwarded
+-- a datagram that came whole, in a packet without options that may be forwarded
 pub record IsWhole (d : Datagram) : Type 0 where
   pub options : d.header.options ≡ []
   pub more : d.header.fields.more ≡ false
   pub offset : d.header.fields.offset ≡ 0
-  pub proto : d.header.fields.proto ≡ 17
   pub ttl : 2 ≤ d.header.fields.ttl
+  pub proto : Proto
   pub segment : Segment
-  pub body : d.body ≡ Ports Udp segment
-  pub sum : (n : ℕ) × (segment.sum ≡ Some n)
+  pub body : d.body ≡ Ports proto segment
   pub total : d.header.fields.total ≡ 20 + length (transport_bytes d.body)
 
-abbrev datagram_with : Header → Segment → Datagram
-datagram_with h s = record { header = h; body = Ports Udp s }
+abbrev datagram_with : Header → Transport → Datagram
+datagram_with h t = record { header = h; body = t }
 
-is_whole : (p : Header × List ℕ) (d : Datagram) → IsPlain p → is_piece p.0 ≡ false → datagram_of p ≡ Ok d → IsWhole d
-is_whole p d plain unbroken h =
-    let (proto, next) = test_passed (p.0.fields.proto == 17) _ _ d h in
-    let (ttl, next') = test_passed (nat_le 2 p.0.fields.ttl) _ _ d next in
-    let (s, holds, same) = step_gave (refused_as (udp_of p.1) BadPacket) _ d next' in
-    let read = gave_anyway (udp_of p.1) BadPacket s holds in
-    let (long, inside) = test_passed (nat_le 8 (length p.1)) _ _ s read in
-    let one = (test_passed (nat_le 8 (u16_at 4 p.1) && nat_le (u16_at 4 p.1) (length p.1)) _ _ s inside).1 in
-    let is : segment_at 6 p.1 ≡ s = ok_inj (segment_at 6 p.1) s _ refl one in
+read_whole : (p : Header × List ℕ) (proto : Proto) (t : Transport) → IsPlain p → is_piece p.0 ≡ false → 2 ≤ p.0.fields.ttl
+    → IsRead proto p.1 t → IsWhole (datagram_with p.0 t)
+read_whole p proto t plain unbroken ttl is =
     let pieces = or_parts p.0.fields.more (nat_lt 0 p.0.fields.offset) unbroken in
-    let len = length_read p.1 (leb-true 8 (length p.1) long) in
-    subst IsWhole (ok_inj (datagram_with p.0 s) d _ refl same)
-    (subst (λ (x : Segment). IsWhole (datagram_with p.0 x)) is (record {
+    let len = ap (λ (x : Transport). length (transport_bytes x)) is.is ∙ length_read is.at p.1 is.least is.most in
+    record {
       options = plain.options;
       more = pieces.0;
       offset = omega (arith, ltb-false 0 p.0.fields.offset pieces.1);
-      proto = eqb-true p.0.fields.proto 17 proto;
-      ttl = leb-true 2 p.0.fields.ttl ttl;
-      segment = segment_at 6 p.1;
-      body = refl;
-      sum = (u16_at 6 p.1, refl);
+      ttl = ttl;
+      proto = proto;
+      segment = segment_at is.at p.1;
+      body = is.is;
       total = omega (arith, plain.total, len);
-    }))
+    }
+
+is_whole : (p : Header × List ℕ) (d : Datagram) → IsPlain p → is_piece p.0 ≡ false → datagram_of p ≡ Ok d → IsWhole d
+is_whole p d plain unbroken h =
+    let (proto, known, next) = step_gave (proto_from p.0.fields.proto) _ d h in
+    let (ttl, next') = test_passed (nat_le 2 p.0.fields.ttl) _ _ d next in
+    let (t, holds, same) = step_gave (refused_as (transport_of proto p.1) BadPacket) _ d next' in
+    let is = is_read p.0.fields.proto proto p.1 t known (gave_anyway (transport_of proto p.1) BadPacket t holds) in
+    subst IsWhole (ok_inj (datagram_with p.0 t) d _ refl same)
+    (read_whole p proto t plain unbroken (leb-true 2 p.0.fields.ttl ttl) is)
 
 -- ---- either way
 
@@ -149,10 +151,10 @@ pub record IsOutward (c : Config) (d : Datagram) : Type 0 where
 
 header_kept : (p : Header × List ℕ) (d : Datagram) → datagram_of p ≡ Ok d → p.0 ≡ d.header
 header_kept p d h =
-    let next = (test_passed (p.0.fields.proto == 17) _ _ d h).1 in
+    let (proto, known, next) = step_gave (proto_from p.0.fields.proto) _ d h in
     let next' = (test_passed (nat_le 2 p.0.fields.ttl) _ _ d next).1 in
-    let (s, holds, same) = step_gave (refused_as (udp_of p.1) BadPacket) _ d next' in
-    ap (λ (x : Datagram). x.header) (ok_inj (datagram_with p.0 s) d _ refl same)
+    let (t, holds, same) = step_gave (refused_as (transport_of proto p.1) BadPacket) _ d next' in
+    ap (λ (x : Datagram). x.header) (ok_inj (datagram_with p.0 t) d _ refl same)
 
 pub is_outward : (c : Config) (inner : List ℕ) (d : Datagram) → outward c inner ≡ Ok d → IsOutward c d
 is_outward c inner d h =

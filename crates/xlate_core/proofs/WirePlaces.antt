@@ -8,7 +8,7 @@ use Rattle.aftr_base.specs.Bytes.{u16_at, u32_at, be16, be32}
 use Rattle.aftr_base.specs.Value.{moment}
 use Rattle.aftr_base.specs.Plan.{is_prefix6}
 use Rattle.aftr_base.specs.declared.value.Ext.{Ext}
-use Rattle.aftr_base.specs.declared.value.Proto.TheVariants.{Udp}
+use Rattle.aftr_base.specs.declared.value.Proto.{Proto}
 use Rattle.aftr_base.specs.declared.value.Subscriber.{Subscriber}
 use Rattle.aftr_base.specs.declared.row.LeaseRow.{LeaseRow}
 use Rattle.aftr_base.specs.declared.event.Event.{Event}
@@ -63,17 +63,17 @@ address_out e d lt = address_read (translated true e d).header (transport_bytes 
 abbrev with_body : Datagram → Transport → Datagram
 with_body d t = record d { body = t }
 
-port_of_ports : (e : Ext) (d : Datagram) (s : Segment) → d.header.options ≡ [] → e.port < 2 ^ 16
-    → u16_at 20 (datagram_bytes (translated true e (with_body d (Ports Udp s)))) ≡ e.port
-port_of_ports e d s bare lt =
-    let before = with_body d (Ports Udp s) in
-    let after : Segment = record s { src = e.port; sum = option_map (segment_sum Udp (place_on true before) e) s.sum } in
+port_of_ports : (e : Ext) (d : Datagram) (p : Proto) (s : Segment) → d.header.options ≡ [] → e.port < 2 ^ 16
+    → u16_at 20 (datagram_bytes (translated true e (with_body d (Ports p s)))) ≡ e.port
+port_of_ports e d p s bare lt =
+    let before = with_body d (Ports p s) in
+    let after : Segment = record s { src = e.port; sum = option_map (segment_sum p (place_on true before) e) s.sum } in
     port_read (translated true e before).header after bare lt
 
 pub port_out : (e : Ext) (d : Datagram) → IsWhole d → e.port < 2 ^ 16 → u16_at 20 (datagram_bytes (translated true e d)) ≡ e.port
 port_out e d is lt =
     ap (λ (t : Transport). u16_at 20 (datagram_bytes (translated true e (with_body d t)))) is.body
-    ∙ port_of_ports e d is.segment is.options lt
+    ∙ port_of_ports e d is.proto is.segment is.options lt
 
 -- ---- a lease's owner is a prefix, and its address and ports are numbers of 32 and of 16 bits
 

@@ -1,6 +1,6 @@
 -- The remote endpoints that mappings are used for: which peer a packet makes or refreshes, and when it is forgotten
 -- (RFC 4787 4.3, RFC 5382 5, RFC 5508 3.2).
-use Rattle.std.specs.Prelude.{ℕ, ◌+◌, true, List, find, Option, Some, None, option_map, if◌then◌else◌}
+use Rattle.std.specs.Prelude.{ℕ, ◌+◌, ◌==◌, true, false, List, find, Option, Some, None, option_map, if◌then◌else◌}
 use Rattle.aftr_base.specs.Value.{moment}
 use Rattle.aftr_base.specs.declared.value.Ext.{Ext}
 use Rattle.aftr_base.specs.declared.value.Proto.{Proto}
@@ -9,7 +9,7 @@ use Rattle.cfg_text.specs.declared.config.Config.{Config}
 use Rattle.nat_mapping.specs.declared.row.Peer.{Peer}
 use Rattle.nat_mapping.specs.Rows.{same_peer}
 use Rattle.tcp_track.specs.declared.TcpState.{TcpState}
-use Rattle.tcp_track.specs.declared.TcpState.TheVariants.{Open}
+use Rattle.tcp_track.specs.declared.TcpState.TheVariants.{Opening, Open, HalfOut, HalfIn, Ending}
 use Rattle.tcp_track.specs.States.{first, next, short_idle}
 
 -- how long a peer lasts unused, in milliseconds
@@ -47,3 +47,22 @@ outbound_state Tcp flags (Some state) = next state flags true
 abbrev pub outbound_peer : Config → ℕ → Proto → Ext → ℕ → Option TcpState → Peer
 outbound_peer c now proto remote flags known =
     let state = outbound_state proto flags known in peer_at proto remote state (now + idle_ms c proto state)
+
+-- the state of the peer that an inbound packet comes from, where it is TCP's
+abbrev pub state_inbound : Proto → Ext → List Peer → Option TcpState
+state_inbound Tcp remote peers = state_among Tcp remote peers
+state_inbound Udp remote peers = None
+state_inbound Icmp remote peers = None
+
+abbrev pub state_number : TcpState → ℕ
+state_number Opening = 0
+state_number Open = 1
+state_number HalfOut = 2
+state_number HalfIn = 3
+state_number Ending = 4
+
+-- the peer after an inbound segment, where that changes its state
+abbrev pub inbound_peer : Config → ℕ → Ext → ℕ → TcpState → Option Peer
+inbound_peer c now remote flags state =
+    let after = next state flags false in
+    if state_number after == state_number state then None else Some (peer_at Tcp remote after (now + idle_ms c Tcp after))

@@ -1,5 +1,5 @@
 -- One record: the clock, what expires, the record's own treatment, and the horizon.
-use Rattle.std.specs.Prelude.{ℕ, ◌+◌, Bool, ◌&&◌, ◌||◌, nat_le, nat_lt, List, [], ◌∷◌, ◌++◌, length, Option, Some, None, is_some, ok_or}
+use Rattle.std.specs.Prelude.{ℕ, ◌+◌, Bool, ◌&&◌, ◌||◌, nat_le, nat_lt, List, [], ◌∷◌, ◌++◌, length, Option, Some, None, is_some, ok_or, ◌≡◌, slice_get, option_and_then}
 use Rattle.std.specs.Prelude.{Result, Ok, Err}
 use Rattle.std.specs.Prelude.{if◌then◌else◌}
 use Rattle.std.specs.List.{list_any}
@@ -14,14 +14,21 @@ use Rattle.aftr_base.specs.declared.event.EventKind.TheVariants.{Softwire, Publi
 use Rattle.aftr_base.specs.declared.event.LogEvent.{LogEvent}
 use Rattle.aftr_base.specs.declared.event.LogEvent.TheVariants.{Horizon}
 use Rattle.aftr_base.specs.declared.event.DropCause.{DropCause}
-use Rattle.aftr_base.specs.declared.event.DropCause.TheVariants.{Settling, Snapped as SnappedCause, BadPacket, NoProtocol, NoMapping}
+use Rattle.aftr_base.specs.declared.event.DropCause.TheVariants.{Settling, Snapped as SnappedCause, BadPacket, NoProtocol, NoMapping, Filtered}
 use Rattle.aftr_base.specs.declared.event.DropCause.TheVariants.{BadChange}
 use Rattle.wire_l4.specs.Places.{proto_of}
 use Rattle.softwire.specs.Tunnel.{tunnel_packet}
 use Rattle.nat_mapping.specs.Rows.{Mapping}
 use Rattle.xlate_core.specs.declared.step_out.Item.{Item}
 use Rattle.xlate_core.specs.declared.grant.Grant.{Grant}
-use Rattle.xlate_core.specs.Rows.{find_in}
+use Rattle.nat_filter.specs.Admits.{admits}
+use Rattle.nat_mapping.specs.declared.row.Peer.{Peer}
+use Rattle.nat_mapping.specs.declared.table.RowId.{RowId}
+use Rattle.nat_mapping.specs.Rows.{row_of}
+use Rattle.cfg_text.specs.declared.config.Config.{Config}
+use Rattle.cfg_text.specs.Accepted.{by_address}
+use Rattle.xlate_core.specs.Endpoints.{inbound_peer, state_inbound}
+use Rattle.xlate_core.specs.Rows.{find_in, touched}
 use Rattle.xlate_core.specs.State.{State, Step, is_past_horizon, reach_of}
 use Rattle.xlate_core.specs.declared.grant.Flow.{Flow}
 use Rattle.xlate_core.specs.Datagram.{Datagram, datagram_bytes, flags_of, place_on, key_of, inner_place, translated}
@@ -76,14 +83,30 @@ sent_out s got g = record {
 abbrev pub outbound_step : State → List ℕ → Step
 outbound_step s bytes = elim (admitted_outbound s bytes) [ Err cause ↦ dropped s cause | Ok found ↦ sent_out s found.0 found.1 ]
 
--- ---- inbound: from the public side to the softwire of the mapping at the destination; no deadline changes
+-- ---- inbound: from the public side to the softwire of the mapping at the destination
 
--- the datagram and its mapping, or the first rule that refuses the record; a packet isn't cut for the softwire
+-- the peer whose state a segment changes
+abbrev pub moved_peer : Config → ℕ → Datagram → List Peer → Option Peer
+moved_peer c now d peers =
+    option_and_then (inbound_peer c now (place_on true d) (flags_of d.body)) (state_inbound (proto_of d.body) (place_on true d) peers)
+
+-- A TCP segment moves the state of the peer that it comes from, and its deadline with it; nothing else does.
+abbrev pub rows_inbound : State → Datagram → Mapping → List Mapping
+rows_inbound s d row =
+    elim (moved_peer s.config s.clock d row.peers) [ None ↦ s.rows | Some p ↦ touched row.key p s.rows ]
+
+-- where a row stands: its key is that of no other before it
+pub record StandsAt (id : RowId) (row : Mapping) (rows : List Mapping) : Type 0 where
+  pub there : slice_get rows id.0 ≡ Some row
+  pub own : Some id ≡ row_of row.key rows
+
+-- the datagram and its mapping, or the first rule that refuses the record (RFC 4787 5); a packet isn't cut for the softwire
 abbrev pub admitted_inbound : State → List ℕ → Result (Datagram × Mapping) DropCause
 admitted_inbound s bytes = do
   require (nat_lt s.floor s.clock) Settling
   d ← inbound_of s.config bytes
   row ← ok_or (find_in (proto_of d.body) (place_on false d) s.rows) NoMapping
+  require (admits row d.header.fields.src (by_address s.config)) Filtered
   require (nat_le (40 + d.header.fields.total) s.config.softwire_mtu) NoProtocol
   Ok (d, row)
 
@@ -93,7 +116,7 @@ delivered_bytes s d row =
     tunnel_packet s.config.aftr row.key.softwire d.header.fields.tos 4 (datagram_bytes (translated false (inner_place row.key) d))
 
 abbrev pub sent_in : State → Datagram → Mapping → Step
-sent_in s d row = record (quiet s) { items = item s SoftwireSide None (delivered_bytes s d row) ∷ [] }
+sent_in s d row = record (quiet (record s { rows = rows_inbound s d row })) { items = item s SoftwireSide None (delivered_bytes s d row) ∷ [] }
 
 abbrev pub inbound_step : State → List ℕ → Step
 inbound_step s bytes = elim (admitted_inbound s bytes) [ Err cause ↦ dropped s cause | Ok found ↦ sent_in s found.0 found.1 ]

@@ -4,7 +4,7 @@ ghost use Rattle.std.specs.Prelude.{◌≡◌, ◌+◌, ◌≤◌, true};
 ghost use Rattle.aftr_base.specs.Limits.{moment_limit};
 ghost use Rattle.cfg_text.specs.Accepted.{is_accepted};
 ghost use Rattle.nat_mapping.specs.Rows.{has_peer, same_peer};
-ghost use Rattle.xlate_core.specs.Endpoints.{endpoint, idle_ms, outbound_peer, outbound_state, peer_at, peer_port, state_among};
+ghost use Rattle.xlate_core.specs.Endpoints.{endpoint, idle_ms, inbound_peer, outbound_peer, outbound_state, peer_at, peer_port, state_among, state_inbound, state_number};
 
 use crate::grant::Flow;
 use aftr_base::{Ext, Moment, Proto};
@@ -45,6 +45,48 @@ pub(crate) fn outbound_peer(
     let proto = flow.key.proto;
     let state = outbound_state(proto, flow.flags, known);
     peer_at(config, now, proto, flow.remote, state)
+}
+
+/// The state of the peer that an inbound packet comes from, where it is TCP's.
+pub(crate) fn state_inbound(proto: Proto, remote: Ext, peers: &[Peer]) -> Option<TcpState>
+    ensures { result ≡ state_inbound proto remote peers.now }
+{
+    match proto {
+        Proto::Tcp => state_among(proto, remote, peers),
+        Proto::Udp | Proto::Icmp => None,
+    }
+}
+
+/// The peer after an inbound segment with these control bits, where that changes its state.
+pub(crate) fn inbound_peer(
+    config: &Config,
+    now: Moment,
+    remote: Ext,
+    flags: u8,
+    state: TcpState,
+) -> Option<Peer>
+    requires accepted { is_accepted config.now ≡ true }
+    requires clock { now.0 ≤ moment_limit }
+    ensures { result ≡ inbound_peer config.now now.0 remote flags state }
+{
+    let after = next(state, flags, false);
+    if number(after) == number(state) {
+        None
+    } else {
+        Some(peer_at(config, now, Proto::Tcp, remote, after))
+    }
+}
+
+fn number(state: TcpState) -> u8
+    ensures { result ≡ state_number state }
+{
+    match state {
+        TcpState::Opening => 0,
+        TcpState::Open => 1,
+        TcpState::HalfOut => 2,
+        TcpState::HalfIn => 3,
+        TcpState::Ending => 4,
+    }
 }
 
 // a peer whose time begins now

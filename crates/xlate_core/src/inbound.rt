@@ -1,19 +1,23 @@
 //! From the public side to the softwire of a mapping (RFC 6333 6.2).
-ghost use Rattle.std.specs.Prelude.{◌≡◌, ◌≤◌, ◌+◌, nat_le, length, true, Ok, Err, None, Some, IfNone, IfSome, IfOk, IfErr, OnOk};
+ghost use Rattle.std.specs.Prelude.{◌≡◌, ◌<◌, ◌≤◌, ◌+◌, nat_le, length, true, Ok, Err, None, Some, IfNone, IfSome, IfOk, IfErr, OnOk};
 ghost use Rattle.softwire.specs.Tunnel.{carrier};
-ghost use Rattle.nat_mapping.specs.Rows.{Mapping, mapping_of};
+ghost use Rattle.nat_mapping.specs.Rows.{Mapping, has_peer, mapping_of};
 ghost use Rattle.xlate_core.specs.Rows.{find_in};
 ghost use Rattle.xlate_core.specs.Datagram.{inner_place};
 ghost use Rattle.xlate_core.specs.Inbound.{inbound_of};
-ghost use Rattle.xlate_core.specs.Step.{admitted_inbound, delivered_bytes, inbound_step, sent_in, with_horizon};
+ghost use Rattle.xlate_core.specs.Step.{StandsAt, admitted_inbound, delivered_bytes, inbound_step, moved_peer, rows_inbound, sent_in, with_horizon};
+ghost use Rattle.nat_filter.specs.Admits.{admits};
+ghost use Rattle.cfg_text.specs.Accepted.{by_address};
 ghost use Rattle.xlate_core.specs.Stepped.{HasStepped};
 
+use crate::endpoints::{inbound_peer, state_inbound};
 use crate::packet::{Datagram, datagram_of, is_ours, is_routable, plain_ip4, require};
 use crate::step_out::StepOut;
 use crate::translator::Core;
-use aftr_base::{DropCause, Ext, InnerKey, Ip6, NoMemory, Packets, Proto, Side};
-use cfg_text::Config;
-use nat_mapping::Row;
+use aftr_base::{DropCause, Ext, InnerKey, Ip4, Ip6, NoMemory, Packets, Proto, Side};
+use cfg_text::{Config, Filter};
+use nat_filter::admits;
+use nat_mapping::{Peer, Row, RowId};
 use softwire::encap;
 use std::alloc::Global;
 
@@ -49,25 +53,41 @@ fn inner_place(key: &InnerKey) -> Ext
     }
 }
 
-// a datagram that goes in, and the key of its mapping
+// whether a mapping admits a remote address, by the configured filter (RFC 4787 section 5)
+fn admits_from(config: &Config, row: &Row, remote: Ip4) -> bool
+    ensures { result ≡ admits (mapping_of row.now) remote (by_address config.now) }
+{
+    admits(row, remote, by_address(config))
+}
+
+fn by_address(config: &Config) -> bool
+    ensures { result ≡ by_address config.now }
+{
+    match config.filter {
+        Filter::Independent => false,
+        Filter::Address => true,
+    }
+}
+
+// a datagram that goes in, and where the row of its mapping stands
 #[derive(Debug, Drop)]
 struct Admitted<'a> {
     datagram: Datagram<'a>,
-    key: InnerKey,
+    row: RowId,
 }
 
 impl Core {
-    /// A record from the public side: its datagram goes to the softwire of the mapping at its destination. The answer is
-    /// the first rule that refuses it.
+    /// A record from the public side: its datagram goes to the softwire of the mapping at its destination, and moves the
+    /// state of the TCP connection that it is of. The answer is the first rule that refuses it.
     pub(crate) fn step_inbound(
-        &self,
+        &mut self,
         alloc: Global,
         bytes: &[u8],
         out: &mut StepOut,
     ) -> Result<Option<DropCause>, NoMemory>
         ensures { IfOk result
             (λ cause. HasStepped
-            (with_horizon (inbound_step self.now bytes.now)) out.old self.now out.new cause) }
+            (with_horizon (inbound_step self.old bytes.now)) out.old self.new out.new cause) }
     {
         match self.admit_inbound(bytes) {
             Err(cause) => Ok(Some(cause)),
@@ -78,70 +98,98 @@ impl Core {
         }
     }
 
-    // the mapping that has this place
-    fn mapping_at(&self, proto: Proto, ext: Ext) -> Option<&Row>
-        ensures there { IfSome result
-            (λ row. find_in proto ext self.now.rows ≡ Some (mapping_of row.now)) }
+    // where the row of this place stands
+    fn find_in(&self, proto: Proto, ext: Ext) -> Option<RowId>
+        ensures there { IfSome result (λ id. (row : Mapping) × StandsAt id row self.now.rows
+            × (find_in proto ext self.now.rows ≡ Some row)) }
+        ensures live { IfSome result (λ id. id.0 < length self.now.rows) }
         ensures none { IfNone result (find_in proto ext self.now.rows ≡ None) }
     {
-        match self.table.find_in(proto, ext) {
-            Some(id) => Some(self.table.row(id)),
-            None => None,
-        }
+        self.table.find_in(proto, ext)
     }
 
     // the rules in their order
     fn admit_inbound<'a>(&self, bytes: &'a [u8]) -> Result<Admitted<'a>, DropCause>
-        ensures admitted { IfOk result (λ a. (row : Mapping) × (row.key ≡ a.key)
+        ensures admitted { IfOk result (λ a. (row : Mapping) × StandsAt a.row row self.now.rows
             × (admitted_inbound self.now bytes.now ≡ Ok (a.datagram, row))) }
+        ensures live { IfOk result (λ a. a.row.0 < length self.now.rows) }
         ensures fits { IfOk result
             (λ a. 40 + a.datagram.header.fields.total ≤ self.now.config.softwire_mtu) }
         ensures refusal { IfErr result (λ cause. admitted_inbound self.now bytes.now ≡ Err cause) }
     {
         require(self.floor.0 < self.clock.0, DropCause::Settling)?;
         let datagram = inbound_of(&self.config, bytes)?;
-        let Some(row) = self.mapping_at(datagram.proto(), datagram.place(false)) else {
+        let Some(id) = self.find_in(datagram.proto(), datagram.place(false)) else {
             return Err(DropCause::NoMapping);
         };
-        let total = datagram.fields().total;
+        let fields = datagram.fields();
         require(
-            fits_softwire(self.config.softwire_mtu, total),
+            admits_from(&self.config, self.table.row(id), fields.src),
+            DropCause::Filtered,
+        )?;
+        require(
+            fits_softwire(self.config.softwire_mtu, fields.total),
             DropCause::NoProtocol,
         )?;
-        Ok(Admitted {
-            datagram,
-            key: row.key,
-        })
+        Ok(Admitted { datagram, row: id })
     }
 
     // what an admitted datagram does
     fn send_in(
-        &self,
+        &mut self,
         alloc: Global,
         admitted: &Admitted<'_>,
         out: &mut StepOut,
     ) -> Result<(), NoMemory>
-        requires { 40 + admitted.now.datagram.header.fields.total ≤ self.now.config.softwire_mtu }
-        ensures { OnOk result ((row : Mapping) → row.key ≡ admitted.now.key → HasStepped
-            (sent_in self.now admitted.now.datagram row) out.old self.now out.new None) }
+        requires live { admitted.now.row.0 < length self.old.rows }
+        requires fits { 40 + admitted.now.datagram.header.fields.total
+            ≤ self.old.config.softwire_mtu }
+        ensures { OnOk result ((row : Mapping) → StandsAt admitted.now.row row self.old.rows → HasStepped
+            (sent_in self.old admitted.now.datagram row) out.old self.new out.new None) }
     {
-        let bytes = self.delivered(alloc, admitted)?;
+        let key = self.table.row(admitted.row).key;
+        let bytes = self.delivered(alloc, &admitted.datagram, &key)?;
         let item = self.item(Side::Softwire, None, bytes);
-        out.items.push(item)
+        out.items.push(item)?;
+        self.follow(admitted.row, &admitted.datagram);
+        Ok(())
     }
 
-    // the datagram in the IPv6 packet that carries it
-    fn delivered(&self, alloc: Global, admitted: &Admitted<'_>) -> Result<Vec<u8>, NoMemory>
-        requires { 40 + admitted.now.datagram.header.fields.total ≤ self.now.config.softwire_mtu }
-        ensures bytes { IfOk result (λ v. (row : Mapping) → row.key ≡ admitted.now.key
-            → v.items ≡ delivered_bytes self.now admitted.now.datagram row) }
+    // moves the state of the connection that a segment is of
+    fn follow(&mut self, id: RowId, datagram: &Datagram<'_>)
+        requires { id.0 < length self.old.rows }
+        ensures { (row : Mapping) → StandsAt id row self.old.rows →
+            (let s = self.old in self.new ≡ record s { rows = rows_inbound s datagram.now row }) }
+    {
+        if let Some(peer) = self.moved_peer(datagram, &self.table.row(id).peers) {
+            self.table.touch(id, peer);
+        }
+    }
+
+    // the peer whose state a segment changes
+    fn moved_peer(&self, datagram: &Datagram<'_>, peers: &[Peer]) -> Option<Peer>
+        ensures moved { result ≡ moved_peer self.now.config self.now.clock datagram.now peers.now }
+        ensures known { IfSome result (λ p. has_peer p peers.now ≡ true) }
+    {
+        let remote = datagram.place(true);
+        let state = state_inbound(datagram.proto(), remote, peers)?;
+        inbound_peer(&self.config, self.clock, remote, datagram.flags(), state)
+    }
+
+    // the datagram in the IPv6 packet that carries it to the softwire of a mapping
+    fn delivered(
+        &self,
+        alloc: Global,
+        datagram: &Datagram<'_>,
+        key: &InnerKey,
+    ) -> Result<Vec<u8>, NoMemory>
+        requires { 40 + datagram.now.header.fields.total ≤ self.now.config.softwire_mtu }
+        ensures bytes { IfOk result (λ v. (row : Mapping) → row.key ≡ key.now
+            → v.items ≡ delivered_bytes self.now datagram.now row) }
         ensures short { IfOk result (λ v. length v.items ≤ 65535) }
     {
-        let key = &admitted.key;
-        let inner = admitted
-            .datagram
-            .translated(alloc, false, inner_place(key))?;
-        self.carried(alloc, &inner, admitted.datagram.fields().tos, key.softwire)
+        let inner = datagram.translated(alloc, false, inner_place(key))?;
+        self.carried(alloc, &inner, datagram.fields().tos, key.softwire)
     }
 
     // the IPv6 packet that carries these bytes, with this traffic class

@@ -1,22 +1,24 @@
 //! What every packet is asked, whichever way it goes, and how it goes on (RFC 3022 4, RFC 4787 4).
-ghost use Rattle.std.specs.Prelude.{◌≡◌, ◌≤◌, ◌+◌, ◌++◌, [], length, take, IfOk};
+ghost use Rattle.std.specs.Prelude.{◌≡◌, ◌≤◌, ◌+◌, ◌++◌, [], length, take, Err, IfErr, IfOk, Ok};
 ghost use Rattle.std.specs.List.{list_any};
-ghost use Rattle.aftr_base.specs.Attempt.{require};
+ghost use Rattle.aftr_base.specs.Attempt.{refused_as, require};
 ghost use Rattle.aftr_base.specs.Plan.{tunnel_prefix};
 ghost use Rattle.aftr_base.specs.Value.{is_under4};
-ghost use Rattle.wire_l4.specs.Grammar.{transport_bytes};
+ghost use Rattle.aftr_base.specs.declared.event.DropCause.TheVariants.{BadPacket};
+ghost use Rattle.aftr_base.specs.declared.value.Proto.TheVariants.{Icmp, Tcp, Udp};
+ghost use Rattle.wire_l4.specs.Grammar.{header_len, transport_bytes, transport_in, transport_of};
 ghost use Rattle.wire_l4.specs.Places.{port_at, proto_of, replaced};
 ghost use Rattle.xlate_core.specs.Datagram.{datagram_bytes, flags_of, place_on, translated};
-ghost use Rattle.xlate_core.specs.Packet.{plain_ip4, is_routable, has_route, datagram_of, udp_behind};
+ghost use Rattle.xlate_core.specs.Packet.{datagram_of, ends_of, has_route, is_routable, plain_ip4, proto_from, transport_behind};
 ghost use Rattle.xlate_core.specs.State.{is_ours};
 
-use aftr_base::{DropCause, Ext, Ip4, NoMemory, Prefix4, Proto};
+use aftr_base::{DropCause, Ext, Ip4, NoMemory, Prefix4, Proto, u16_in};
 use arrayvec::ArrayVec;
 use cfg_text::Config;
 use std::alloc::Global;
 use std::marker::Model;
 use wire_ip4::{Ip4Fields, Ip4View};
-use wire_l4::{UdpView, set_place};
+use wire_l4::{TcpView, UdpView, set_place};
 
 /// Goes on where the test is true.
 pub(crate) fn require(test: bool, cause: DropCause) -> Result<(), DropCause>
@@ -78,45 +80,136 @@ fn is_under_any(pool: &[Prefix4], a: Ip4) -> bool
     pool.iter().any(|p| p.covers(a))
 }
 
-/// A UDP datagram that may be forwarded once more, read in place. Contracts see its header and its transport.
+/// The ports of a transport, and the control bits that only TCP has.
+#[derive(Clone, Copy, Debug)]
+pub(crate) struct Ends {
+    pub(crate) src: u16,
+    pub(crate) dst: u16,
+    pub(crate) flags: u8,
+}
+
+/// A UDP datagram or TCP segment that may be forwarded once more, read in place. Contracts see its header and its transport.
 #[derive(Debug, Drop)]
 pub(crate) struct Datagram<'a> {
     packet: Ip4View<'a>,
     proto: Proto,
-    udp: UdpView<'a>,
+    ends: Ends,
 }
 
 impl<'a> Model for Datagram<'a> {
-    ghost use Rattle.wire_l4.specs.Grammar.{Ports};
-    ghost use Rattle.wire_l4.specs.Grammar.{transport_bytes};
-    ghost use Rattle.wire_l4.specs.Places.{port_at, proto_of, replaced};
+    ghost use Rattle.wire_l4.specs.Grammar.{transport_in};
     ghost use Rattle.xlate_core.specs.Datagram.{Datagram as SpecDatagram};
     ghost use Rattle.xlate_core.specs.Packet.{IsReady};
 
     ghost Value = { SpecDatagram };
 
-    ghost view = { λ d. record { header = d.packet.0; body = Ports d.proto d.udp } };
+    ghost view = { λ d. record { header = d.packet.0; body = transport_in d.proto d.packet.1 } };
 
-    ghost invariant = { λ d. IsReady d.packet.0 d.packet.1 d.proto d.udp };
+    ghost invariant = { λ d. IsReady d.packet.0 d.packet.1 d.proto d.ends };
 }
 
-/// The datagram of a plain packet. The cause is `NoProtocol` for another protocol than UDP, `TtlSpent` where it may take
-/// no further hop, and `BadPacket` where its lengths don't fit.
+/// The datagram of a plain packet. The cause is `NoProtocol` for another protocol than UDP and TCP, `TtlSpent` where it may
+/// take no further hop, and `BadPacket` where its lengths don't fit.
 pub(crate) fn datagram_of(packet: Ip4View<'_>) -> Result<Datagram<'_>, DropCause>
     requires plain { packet.0.options ≡ [] }
     requires total { packet.0.fields.total ≡ 20 + length packet.1 }
     ensures { result ≡ datagram_of packet.entry }
 {
     let fields = packet.fields();
-    require(fields.proto == 17, DropCause::NoProtocol)?;
+    let proto = proto_from(fields.proto)?;
     require(2 <= fields.ttl, DropCause::TtlSpent)?;
-    let Ok(udp) = UdpView::read(packet.payload()) else {
-        return Err(DropCause::BadPacket);
-    };
+    let ends = ends_in(proto, packet.payload())?;
     Ok(Datagram {
         packet,
-        proto: Proto::Udp,
-        udp,
+        proto,
+        ends,
+    })
+}
+
+// the protocols that are translated
+fn proto_from(number: u8) -> Result<Proto, DropCause>
+    ensures { result ≡ proto_from number }
+{
+    if number == 17 {
+        Ok(Proto::Udp)
+    } else if number == 6 {
+        Ok(Proto::Tcp)
+    } else {
+        Err(DropCause::NoProtocol)
+    }
+}
+
+// the ports and control bits of the transport in these bytes
+fn ends_in(proto: Proto, payload: &[u8]) -> Result<Ends, DropCause>
+    ensures ends { IfOk result (λ e. e ≡ ends_of (transport_in proto payload.now)) }
+    ensures whole { IfOk result (λ e. header_len proto ≤ length payload.now) }
+    ensures read { IfOk result
+        (λ e. transport_of proto payload.now ≡ Ok (transport_in proto payload.now)) }
+    ensures refusal { IfErr result
+        (λ cause. refused_as (transport_of proto payload.now) BadPacket ≡ Err cause) }
+{
+    match proto {
+        Proto::Udp => udp_ends(payload),
+        Proto::Tcp => tcp_ends(payload),
+        Proto::Icmp => query_ends(payload),
+    }
+}
+
+fn udp_ends(payload: &[u8]) -> Result<Ends, DropCause>
+    ensures ends { IfOk result (λ e. e ≡ ends_of (transport_in Udp payload.now)) }
+    ensures whole { IfOk result (λ e. header_len Udp ≤ length payload.now) }
+    ensures read { IfOk result
+        (λ e. transport_of Udp payload.now ≡ Ok (transport_in Udp payload.now)) }
+    ensures refusal { IfErr result
+        (λ cause. refused_as (transport_of Udp payload.now) BadPacket ≡ Err cause) }
+{
+    match UdpView::read(payload) {
+        Ok(udp) => {
+            let (src, dst) = udp.ports();
+            Ok(Ends { src, dst, flags: 0 })
+        }
+        Err(_) => Err(DropCause::BadPacket),
+    }
+}
+
+fn tcp_ends(payload: &[u8]) -> Result<Ends, DropCause>
+    ensures ends { IfOk result (λ e. e ≡ ends_of (transport_in Tcp payload.now)) }
+    ensures whole { IfOk result (λ e. header_len Tcp ≤ length payload.now) }
+    ensures read { IfOk result
+        (λ e. transport_of Tcp payload.now ≡ Ok (transport_in Tcp payload.now)) }
+    ensures refusal { IfErr result
+        (λ cause. refused_as (transport_of Tcp payload.now) BadPacket ≡ Err cause) }
+{
+    match TcpView::read(payload) {
+        Ok(tcp) => {
+            let (src, dst) = tcp.ports();
+            Ok(Ends {
+                src,
+                dst,
+                flags: tcp.flags(),
+            })
+        }
+        Err(_) => Err(DropCause::BadPacket),
+    }
+}
+
+// an ICMP query has its identifier on both sides (RFC 5508 section 3.1)
+fn query_ends(payload: &[u8]) -> Result<Ends, DropCause>
+    ensures ends { IfOk result (λ e. e ≡ ends_of (transport_in Icmp payload.now)) }
+    ensures whole { IfOk result (λ e. header_len Icmp ≤ length payload.now) }
+    ensures read { IfOk result
+        (λ e. transport_of Icmp payload.now ≡ Ok (transport_in Icmp payload.now)) }
+    ensures refusal { IfErr result
+        (λ cause. refused_as (transport_of Icmp payload.now) BadPacket ≡ Err cause) }
+{
+    if payload.len() < 8 {
+        return Err(DropCause::BadPacket);
+    }
+    let id = u16_in(payload, 4);
+    Ok(Ends {
+        src: id,
+        dst: id,
+        flags: 0,
     })
 }
 
@@ -139,8 +232,7 @@ impl<'a> Datagram<'a> {
     pub(crate) fn flags(&self) -> u8
         ensures { result ≡ flags_of self.now.body }
     {
-        let _proto = self.proto;
-        0
+        self.ends.flags
     }
 
     /// Its source, or else its destination.
@@ -148,10 +240,9 @@ impl<'a> Datagram<'a> {
         ensures { result ≡ place_on source self.now }
     {
         let fields = self.packet.fields();
-        let (src, dst) = self.udp.ports();
         Ext {
             addr: if source { fields.src } else { fields.dst },
-            port: if source { src } else { dst },
+            port: if source { self.ends.src } else { self.ends.dst },
         }
     }
 
@@ -171,7 +262,7 @@ impl<'a> Datagram<'a> {
         let mut header = ArrayVec::new();
         self.packet.write_forwarded(source, new.addr, &mut header);
         let mut bytes = joined(alloc, header.as_slice(), self.packet.payload())?;
-        set_behind(&mut bytes, source, self.place(source), new);
+        set_behind(self.proto, &mut bytes, source, self.place(source), new);
         Ok(bytes)
     }
 }
@@ -186,12 +277,12 @@ fn joined(alloc: Global, header: &[u8], payload: &[u8]) -> Result<Vec<u8>, NoMem
     Ok(bytes)
 }
 
-// puts the place `new` where `old` stands, in a datagram behind the 20 bytes of a header
-fn set_behind(bytes: &mut [u8], source: bool, old: Ext, new: Ext)
-    requires whole { 28 ≤ length bytes.old }
-    requires there { port_at source (udp_behind bytes.old) ≡ old.port }
-    ensures { bytes.new
-        ≡ take 20 bytes.old ++ transport_bytes (replaced source old new (udp_behind bytes.old)) }
+// puts the place `new` where `old` stands, in a transport behind the 20 bytes of a header
+fn set_behind(proto: Proto, bytes: &mut [u8], source: bool, old: Ext, new: Ext)
+    requires whole { 20 + header_len proto ≤ length bytes.old }
+    requires there { port_at source (transport_behind proto bytes.old) ≡ old.port }
+    ensures { bytes.new ≡ take 20 bytes.old
+        ++ transport_bytes (replaced source old new (transport_behind proto bytes.old)) }
 {
-    set_place(Proto::Udp, &mut bytes[20..], source, old, new);
+    set_place(proto, &mut bytes[20..], source, old, new);
 }

@@ -1,10 +1,7 @@
-use Rattle.std.proofs.Common.{◌≡◌, refl, sym, subst}
-use Rattle.aftr_base.specs.declared.value.Proto.{Proto}
-use Rattle.wire_l4.specs.Grammar.{Ports}
+use Rattle.std.proofs.Common.{ap, ◌∙◌}
+use Rattle.xlate_core.specs.declared.packet.Ends.{Ends}
 use Rattle.xlate_core.specs.Datagram.{Datagram, flags_of}
 use Rattle.xlate_core.proofs.packet.Datagram.flags.Goals as goal
 
 pub returns : goal.returns
-returns c =
-    subst (λ (d : Datagram). 0 ≡ flags_of d.body) c.self.view_is
-    (subst (λ (p : Proto). 0 ≡ flags_of (Ports p c.self.inside.udp)) (sym c.self.invariant.udp) refl)
+returns c = ap (λ (e : Ends). e.flags) c.self.invariant.read ∙ ap (λ (d : Datagram). flags_of d.body) c.self.view_is

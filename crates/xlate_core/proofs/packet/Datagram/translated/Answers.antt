@@ -2,10 +2,10 @@ use Rattle.std.proofs.Common.{◌≡◌, ◌++◌, ℕ, List, length, take, drop
 use Rattle.aftr_base.specs.declared.value.Ext.{Ext}
 use Rattle.wire_ip4.specs.Grammar.{Header, header_bytes}
 use Rattle.wire_ip4.specs.Forwarded.{forwarded}
-use Rattle.wire_l4.specs.Grammar.{Transport, Ports}
+use Rattle.wire_l4.specs.Grammar.{Transport, transport_in}
 use Rattle.wire_l4.specs.Places.{port_at}
 use Rattle.xlate_core.specs.Datagram.{Datagram, datagram_bytes, place_on, translated}
-use Rattle.xlate_core.proofs.Datagrams.{whole_len, transport_behind, written, all_written}
+use Rattle.xlate_core.proofs.Datagrams.{whole_len, transport_there, written, all_written}
 use Rattle.xlate_core.proofs.packet.Datagram.translated.Goals as goal
 
 -- the header and the payload that the vector was made of
@@ -27,8 +27,7 @@ set_behind-requires-clause-there c =
     let so = made_of h c.self.inside.packet.1 c.deref_mut.result.now c.in_ok-bytes.bytes.items c.as_slice.result.now c.payload.result.now
     c.deref_mut.ensures.value c.in_ok-bytes.ensures (c.as_slice.ensures.value ∙ c.write_forwarded.ensures.bytes) c.payload.ensures in
     ap (λ (t : Transport). port_at c.args.source t)
-    (transport_behind h c.self.inside.packet.1 c.deref_mut.result.now c.self.inside.proto c.self.inside.udp
-    c.self.invariant.bare so c.self.invariant.udp c.self.invariant.held)
+    (transport_there h c.self.inside.packet.1 c.deref_mut.result.now c.self.inside.proto c.self.invariant.bare so)
     ∙ ap (λ (d : Datagram). (place_on c.args.source d).port) c.self.view_is ∙ sym (ap (λ (e : Ext). e.port) c.place.ensures)
 
 pub returns-clause-bytes : goal.returns-clause-bytes
@@ -36,18 +35,16 @@ returns-clause-bytes c =
     let h = forwarded c.args.source c.args.new.addr c.self.inside.packet.0 in
     let so = made_of h c.self.inside.packet.1 c.deref_mut.result.now c.in_ok-bytes.bytes.items c.as_slice.result.now c.payload.result.now
     c.deref_mut.ensures.value c.in_ok-bytes.ensures (c.as_slice.ensures.value ∙ c.write_forwarded.ensures.bytes) c.payload.ensures in
-    let inside = transport_behind h c.self.inside.packet.1 c.deref_mut.result.now c.self.inside.proto c.self.inside.udp
-    c.self.invariant.bare so c.self.invariant.udp c.self.invariant.held in
-    let d : Datagram = record { header = c.self.inside.packet.0; body = Ports c.self.inside.proto c.self.inside.udp } in
+    let d : Datagram = record { header = c.self.inside.packet.0; body = transport_in c.self.inside.proto c.self.inside.packet.1 } in
     let len : c.in_ok-bytes.bytes.len ≡ length c.set_behind.new.bytes = sym (c.set_behind.auto.bytes ∙ c.deref_mut.ensures.len) in
     subst (λ (x : Datagram). take c.in_ok-bytes.bytes.len
     (c.set_behind.new.bytes ++ drop (length c.set_behind.new.bytes) c.in_ok-bytes.bytes.items) ≡ datagram_bytes
     (translated c.args.source c.args.new x)) c.self.view_is
     (ap (λ (l : List ℕ). take c.in_ok-bytes.bytes.len (c.set_behind.new.bytes ++ drop (length c.set_behind.new.bytes) l))
     (sym c.deref_mut.ensures.value)
-    ∙ written h c.self.inside.packet.1 c.deref_mut.result.now c.set_behind.new.bytes c.in_ok-bytes.bytes.len c.args.source c.place.result
-    (place_on c.args.source d) c.args.new d.body
-    c.self.invariant.bare so inside (c.place.ensures ∙ ap (place_on c.args.source) (sym c.self.view_is)) c.set_behind.ensures len)
+    ∙ written h c.self.inside.packet.1 c.deref_mut.result.now c.set_behind.new.bytes c.in_ok-bytes.bytes.len c.self.inside.proto
+    c.args.source c.place.result (place_on c.args.source d) c.args.new
+    c.self.invariant.bare so (c.place.ensures ∙ ap (place_on c.args.source) (sym c.self.view_is)) c.set_behind.ensures len)
 
 pub returns-clause-total : goal.returns-clause-total
 returns-clause-total c =
