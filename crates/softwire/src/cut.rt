@@ -100,7 +100,8 @@ fn piece(
     requires short { length part.now ≤ 65515 }
     requires offset { offset < 8192 }
     ensures { IfOk result (λ v. v.items
-        ≡ header_bytes (header_with (piece_fields fields.now (length part.now) offset more)) ++ part.now) }
+        ≡ header_bytes (header_with (piece_fields fields.now (length part.now) offset more))
+        ++ part.now) }
 {
     let mut header = ArrayVec::new();
     let fields = Ip4Fields {

@@ -97,7 +97,8 @@ fn fragment(
     requires offset { offset < 8192 }
     ensures { IfOk result (λ v. v.items
         ≡ tunnel_packet carrier.aftr carrier.softwire carrier.class 44
-        (frag_bytes record { next = 4; offset = offset; more = more; id = carrier.id } ++ part.now)) }
+        (frag_bytes record { next = 4; offset = offset; more = more; id = carrier.id }
+        ++ part.now)) }
 {
     let header = Ip6Fields {
         class: carrier.class,

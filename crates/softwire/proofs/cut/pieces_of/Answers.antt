@@ -18,6 +18,7 @@ loop-i-preserved c =
     c.front_of-part.ensures ∙ ap (take n) (all_after (n * i) payload) ∙ piece_is n payload i in
     let made : c.in_ok-piece.piece.items ≡ ip4_piece f n payload i =
     c.in_ok-piece.ensures
-    ∙ (λ k. header_bytes (header_with (piece_fields f (length (part k)) (n * i / 8) (nat_lt (i + 1) (c.div_ceil-count.ensures k)))) ++ part k) in
+    ∙ (λ k.
+    header_bytes (header_with (piece_fields f (length (part k)) (n * i / 8) (nat_lt (i + 1) (c.div_ceil-count.ensures k)))) ++ part k) in
     c.in_ok-push.ensures.ok ∙ (λ k. c.loop-i.invariant k ++ made k ∷ [])
     ∙ sym (map-range_with_len_more (ip4_piece f n payload) 0 i i (omega arith))
