@@ -1,5 +1,6 @@
 -- An error that is made, in the bytes that it is made of.
-use Rattle.std.proofs.Common.{◌≡◌, ℕ, ◌+◌, ◌-◌, ◌*◌, ◌≤◌, ◌<◌, ◌^◌, Bool, false, List, [], ◌∷◌, ◌++◌, length, take, Result, Ok, Err, sym, ap, ◌∙◌, arith}
+use Rattle.std.proofs.Common.{◌≡◌, ℕ, ◌+◌, ◌-◌, ◌*◌, ◌≤◌, ◌<◌, ◌^◌, Bool, false, List, [], ◌∷◌, ◌++◌, length, take}
+use Rattle.std.proofs.Common.{Result, Ok, Err, sym, ap, ◌∙◌, arith}
 use Rattle.std.proofs.Common.{append_assoc, length-append, length-take}
 use Rattle.std.specs.Prelude.{sum, OnOk, if◌then◌else◌}
 use Rattle.std.proofs.lemmas.List.{append-nil}
@@ -13,7 +14,8 @@ use Rattle.wire_ip4.proofs.SumLaws.{is_header_with, sound_with}
 use Rattle.wire_ip4.proofs.HeaderRead.{length_written}
 use Rattle.icmp_xlate.specs.declared.made.MadeError.{MadeError}
 use Rattle.icmp_xlate.specs.declared.made.MadeError.TheVariants.{HostUnreachable, TooBig, TimeExceeded}
-use Rattle.icmp_xlate.specs.Made.{ReadsBack, code_of, error_fields, error_message, error_packet, is_error, made_error, sound_message, type_of, word_of}
+use Rattle.icmp_xlate.specs.Made.{ReadsBack, code_of, error_fields, error_message, error_packet, is_error, made_error}
+use Rattle.icmp_xlate.specs.Made.{sound_message, type_of, word_of}
 use Rattle.icmp_xlate.proofs.Sums.{completed, pair_counts, word_counts}
 use Rattle.icmp_xlate.proofs.Headers.{head_taken}
 

@@ -1,5 +1,6 @@
 -- A quoted packet, and the error that quotes it, with a place replaced.
-use Rattle.std.proofs.Common.{◌≡◌, ℕ, ◌-◌, ◌≤◌, ◌<◌, ◌^◌, Bool, List, [], ◌∷◌, ◌++◌, length, get_or, take, drop, Option, Some, refl, sym, ap, ◌∙◌, arith}
+use Rattle.std.proofs.Common.{◌≡◌, ℕ, ◌-◌, ◌≤◌, ◌<◌, ◌^◌, Bool, List, [], ◌∷◌, ◌++◌, length, get_or, take, drop, Option}
+use Rattle.std.proofs.Common.{Some, refl, sym, ap, ◌∙◌, arith}
 use Rattle.std.specs.Prelude.{option_to_list}
 use Rattle.std.proofs.lemmas.List.{append-nil, length-drop, drop_all}
 use Rattle.std.proofs.lemmas.Nat.{from_be_bytes-to_be_bytes_2}
@@ -59,7 +60,8 @@ pub quote_put : (r : Report) (q : Quoted) → take 8 (report_bytes r) ++ quoted_
 unfolding be16 be32
 quote_put r q = refl
 
-pub sum_put : (r : Report) (sum : ℕ) → let old = report_bytes r in take 2 old ++ be16 sum ++ drop 4 old ≡ report_bytes (record r { sum = sum })
+pub sum_put : (r : Report) (sum : ℕ) → let old = report_bytes r in
+    take 2 old ++ be16 sum ++ drop 4 old ≡ report_bytes (record r { sum = sum })
 unfolding be16 be32
 sum_put r sum = refl
 

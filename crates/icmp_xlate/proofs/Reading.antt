@@ -8,6 +8,7 @@ use Rattle.wire_ip4.specs.Grammar.{Header, header_bytes, SpellsPacket}
 use Rattle.wire_l4.specs.Grammar.{Echo, echo_bytes}
 use Rattle.wire_icmp.specs.Grammar.{SpellsMessage}
 use Rattle.wire_icmp.specs.Quoted.{Report, report_of, SpellsReport, Shown, shown, quoted_place}
+use Rattle.wire_icmp.proofs.Reports.{mapped}
 use Rattle.icmp_xlate.specs.Translated.{SpellsError}
 use Rattle.icmp_xlate.proofs.Headers.{head_long}
 
@@ -18,10 +19,6 @@ passed false e = absurd cc
 -- a header that was asked for options has none
 pub no_options : (h : Header) (b : Bool) → b ≡ not (length h.options == 0) → b ≡ false → h.options ≡ []
 no_options h b has none = nil_from_length h.options (eqb-true (length h.options) 0 (passed (length h.options == 0) (sym has ∙ none)))
-
-mapped : {A B : Type 0} (f : A → B) (o : Option A) (y : B) → option_map f o ≡ Some y → (x : A) × (o ≡ Some x) × (f x ≡ y)
-mapped f (Some x) y is = (x, refl, cc)
-mapped f None y is = absurd cc
 
 -- the error that was read, its packet, and its places
 pub record IsRead (packet : List ℕ) (h : Header) (e : Shown) : Type 0 where

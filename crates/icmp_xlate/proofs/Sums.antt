@@ -1,5 +1,6 @@
 -- A checksum that was right stays right where a place is replaced.
-use Rattle.std.proofs.Common.{◌≡◌, ℕ, zero, suc, ◌+◌, ◌-◌, ◌*◌, ◌/◌, ◌%◌, ◌≤◌, ◌<◌, ◌^◌, Bool, true, false, not, List, [], ◌∷◌, ◌++◌, length}
+use Rattle.std.proofs.Common.{◌≡◌, ℕ, zero, suc, ◌+◌, ◌-◌, ◌*◌, ◌/◌, ◌%◌, ◌≤◌, ◌<◌, ◌^◌, Bool, true, false, not, List}
+use Rattle.std.proofs.Common.{[], ◌∷◌, ◌++◌, length}
 use Rattle.std.proofs.Common.{Option, Some, None, eqb, refl, sym, ap, subst, ◌∙◌, arith, append_assoc}
 use Rattle.std.specs.Prelude.{sum, option_to_list}
 use Rattle.std.specs.List.{AllByRecursion}
@@ -121,7 +122,8 @@ abbrev stays : Bool → Header → ℕ
 stays source h = words_at (address_on (not source) h)
 
 side_counts : (source : Bool) (h : Header) (rest : List ℕ) → IsHeader h → h.options ≡ []
-    → sum (words_of (header_bytes h ++ rest)) ≡ others h + stays source h + h.sum + sum (address_words (address_on source h).0) + sum (words_of rest)
+    → sum (words_of (header_bytes h ++ rest))
+    ≡ others h + stays source h + h.sum + sum (address_words (address_on source h).0) + sum (words_of rest)
 side_counts true h rest is bare = header_counts h rest is bare ∙ omega arith
 side_counts false h rest is bare = header_counts h rest is bare ∙ omega arith
 
@@ -182,7 +184,8 @@ tcp_counts proto src dst fixed None rest h =
     let none : sum (words_of rest) ≡ 0 = ap (λ (l : List ℕ). sum (words_of l)) h.sum.2 ∙ omega arith in
     cut_counts (record { src = src; dst = dst; fixed = fixed; sum = None; rest = rest }) h.src h.dst h.sum.2 ∙ omega (arith, none)
 tcp_counts proto src dst fixed (Some n) rest h =
-    segment_counts 6 n (record { src = src; dst = dst; fixed = fixed; sum = Some n; rest = rest }) (omega (arith, h.sum.0)) h.src h.dst h.sum.1
+    segment_counts 6 n (record { src = src; dst = dst; fixed = fixed; sum = Some n; rest = rest }) (omega (arith, h.sum.0)) h.src h.dst
+    h.sum.1
     ∙ omega arith
 
 front_counts : (proto : ℕ) (source : Bool) (t : Transport) → IsQuoted proto t
@@ -278,7 +281,8 @@ header_sound source addr h is bare fits sound =
     let before = ap (λ (l : List ℕ). sum (words_of l)) (sym (append-nil (header_bytes h))) ∙ side_counts source h [] is bare in
     let after = ap (λ (l : List ℕ). sum (words_of l)) (sym (append-nil (header_bytes h')))
     ∙ side_counts source h' [] (is_readdressed source addr h is fits) bare in
-    let now : sum (address_words (address_on source h').0) ≡ sum new = ap (λ (a : Ip4). sum (address_words a.0)) (address_now source addr h) in
+    let now : sum (address_words (address_on source h').0) ≡ sum new =
+    ap (λ (a : Ip4). sum (address_words a.0)) (address_now source addr h) in
     along (others h + stays source h) (h.sum + sum old) (h'.sum + sum new) (sum (words_of (header_bytes h)))
     (sum (words_of (header_bytes h'))) (omega (arith, before)) (omega (arith, after, now, stays_there source addr h)) same
     (omega (arith, after)) sound

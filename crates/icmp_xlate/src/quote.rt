@@ -103,7 +103,8 @@ fn set_front(number: u8, front: &mut [u8], source: bool, old: Ext, new: Ext)
 // the same of a TCP segment that may be cut before its checksum
 fn set_segment(front: &mut [u8], source: bool, old: Ext, new: Ext)
     requires some { 8 ≤ length front.old }
-    ensures value { front.new ≡ segment_bytes (segment_with source old new (quoted_segment front.old)) }
+    ensures value { front.new
+        ≡ segment_bytes (segment_with source old new (quoted_segment front.old)) }
 {
     let at = if source { 0 } else { 2 };
     if front.len() < TCP_SUM_END {

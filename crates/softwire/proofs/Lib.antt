@@ -1,1 +1,4 @@
 pub mod TunnelLaws
+pub mod Pieces
+pub mod Cuts
+pub mod PieceBytes

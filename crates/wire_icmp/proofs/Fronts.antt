@@ -94,7 +94,8 @@ front_spelled proto bytes t fits is =
     by_protocol (IsFront proto bytes) (nat_lt size 8) (proto == 17) (proto == 6) (proto == 1 && is_echo (u8_at 0 bytes))
     (Ports Udp (segment_at 6 bytes)) (Ports Tcp (quoted_segment bytes)) (Query (echo_of bytes)) t
     (λ long number. udp_again bytes fits (some long) proto (eqb-true proto 17 number))
-    (λ long number. tcp_again bytes fits (some long) proto (nat_lt size 18) (eqb-true proto 6 number) (ltb-true size 18) (ltb-false size 18))
+    (λ long number. tcp_again bytes fits (some long) proto (nat_lt size 18) (eqb-true proto 6 number) (ltb-true size 18)
+    (ltb-false size 18))
     (λ long tests. echo_quoted bytes fits (some long) proto tests)
     is
 
@@ -118,7 +119,8 @@ segment_read at n s there small src dst len =
         let behind : List ℕ = be16 n ++ s.rest in
         let four : length ports ≡ 4 = omega (arith, length-append (be16 s.src) (be16 s.dst), length-be16 s.src, length-be16 s.dst) in
         let after_ports : drop 4 bytes ≡ s.fixed ++ behind =
-        ap (drop 4) (sym row ∙ sym (append_assoc (be16 s.src) (be16 s.dst) (s.fixed ++ behind))) ∙ drop_at ports (s.fixed ++ behind) 4 four in
+        ap (drop 4) (sym row ∙ sym (append_assoc (be16 s.src) (be16 s.dst) (s.fixed ++ behind)))
+        ∙ drop_at ports (s.fixed ++ behind) 4 four in
         let after_fixed : drop at bytes ≡ behind =
         ap (λ (k : ℕ). drop k bytes) (sym len ∙ omega arith) ∙ sym (drop-drop (length s.fixed) 4 bytes)
         ∙ ap (drop (length s.fixed)) after_ports ∙ drop_at s.fixed behind (length s.fixed) refl in
@@ -127,7 +129,8 @@ segment_read at n s there small src dst len =
         let is_dst : u16_at 2 bytes ≡ s.dst =
         u16_spelled 2 s.dst bytes (s.fixed ++ behind) dst (ap (drop 2) (sym row) ∙ drop_at (be16 s.src) _ 2 (length-be16 s.src)) in
         let is_fixed : take (at - 4) (drop 4 bytes) ≡ s.fixed =
-        ap (λ (k : ℕ). take k (drop 4 bytes)) size ∙ ap (take (length s.fixed)) after_ports ∙ take_at s.fixed behind (length s.fixed) refl in
+        ap (λ (k : ℕ). take k (drop 4 bytes)) size ∙ ap (take (length s.fixed)) after_ports
+        ∙ take_at s.fixed behind (length s.fixed) refl in
         let is_sum : u16_at at bytes ≡ n = u16_spelled at n bytes s.rest small after_fixed in
         let is_rest : drop (at + 2) bytes ≡ s.rest =
         sym (drop-drop 2 at bytes) ∙ ap (drop 2) after_fixed ∙ drop_at (be16 n) s.rest 2 (length-be16 n) in

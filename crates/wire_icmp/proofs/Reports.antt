@@ -17,7 +17,8 @@ use Rattle.wire_ip4.proofs.Attempts.{and_true}
 use Rattle.wire_ip4.proofs.Pieces.{two_ones, two_more, four_more, bytes_of_rest}
 use Rattle.wire_ip4.proofs.GrammarLaws.{front_spelled as header_spelled, front_accepts as header_accepts}
 use Rattle.wire_l4.specs.Grammar.{Transport, transport_bytes}
-use Rattle.wire_icmp.specs.Quoted.{Quoted, quoted_of, quoted_behind, quoted_bytes, quoted_transport, SpellsQuoted, ends_of, shown, shown_quoted}
+use Rattle.wire_icmp.specs.Quoted.{Quoted, quoted_of, quoted_behind, quoted_bytes, quoted_transport, SpellsQuoted}
+use Rattle.wire_icmp.specs.Quoted.{ends_of, shown, shown_quoted}
 use Rattle.wire_icmp.specs.Quoted.{Report, report_of, report_with, report_bytes, SpellsReport}
 use Rattle.wire_icmp.proofs.Fronts.{front_spelled, front_read}
 
@@ -40,7 +41,7 @@ module _ {A B : Type 0} where
   tested false b f o q is = absurd cc
 
 module _ {A B : Type 0} where
-  mapped : (f : A → B) (o : Option A) (y : B) → option_map f o ≡ Some y → (x : A) × (o ≡ Some x) × (f x ≡ y)
+  pub mapped : (f : A → B) (o : Option A) (y : B) → option_map f o ≡ Some y → (x : A) × (o ≡ Some x) × (f x ≡ y)
   mapped f (Some x) y is = (x, refl, cc)
   mapped f None y is = absurd cc
 

@@ -28,7 +28,8 @@ returns-clause-ok c =
       message = message;
       message_is = c.message_about-message.ensures;
       packet_is = c.as_slice-2.ensures.value ∙ c.packet_to-packet.ensures
-          ∙ ap (λ (l : List ℕ). header_bytes (header_with (error_fields c.fields-fields.result.src (length l))) ++ l) c.as_slice.ensures.value;
+          ∙ ap (λ (l : List ℕ). header_bytes (header_with (error_fields c.fields-fields.result.src (length l))) ++ l)
+          c.as_slice.ensures.value;
     } in
     on_ok c.extend_from_slice.result
     (λ added h payload read bare. made_behind c.args.error c.args.offending.now c.args.out.now c.extend_from_slice.new.self

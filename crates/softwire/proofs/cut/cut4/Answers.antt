@@ -1,0 +1,28 @@
+use Rattle.std.proofs.Common.{◌≡◌, ◌+◌, ◌≤◌, ◌<◌, ℕ, List, length, take, ap, ◌∙◌, arith}
+use Rattle.softwire.specs.Cut.{ip4_pieces, room_of}
+use Rattle.softwire.proofs.Cuts.{on_ok, as_it_stands, in_pieces}
+use Rattle.softwire.proofs.cut.cut4.Goals as goal
+
+pub returns-then-payload-from-clause-ok : goal.returns-then-payload-from-clause-ok
+returns-then-payload-from-clause-ok c =
+    let bytes : List ℕ = c.args.datagram.now in
+    let payload = c.payload-payload.ensures in
+    let fits : 20 + length c.in-Ok.packet.1 ≤ c.args.mtu = omega (arith, ap length payload, c.if-payload-from.true, c.from.ensures) in
+    let whole : c.in_ok-whole.whole.items ≡ take (20 + length c.in-Ok.packet.1) bytes =
+    c.in_ok-whole.ensures.items ∙ c.front_of.ensures ∙ ap (λ (l : List ℕ). take (20 + length l) bytes) payload in
+    on_ok c.push.result
+    (λ added h rest read bare. as_it_stands c.args.mtu bytes c.args.out.now c.push.new.self c.in-Ok.packet (h, rest)
+    c.in-Ok.ensures.value read bare c.in_ok-whole.whole.items c.in-Ok.ensures.spelled fits whole added)
+    c.push.ensures.ok
+
+pub returns-clause-ok : goal.returns-clause-ok
+returns-clause-ok c =
+    let bytes : List ℕ = c.args.datagram.now in
+    let payload = c.payload-payload.ensures in
+    let longer : c.args.mtu < 20 + length c.in-Ok.packet.1 = omega (arith, ap length payload, c.if-payload-from.false, c.from.ensures) in
+    let are : c.in_ok-pieces.pieces ≡ ip4_pieces c.in-Ok.packet.0.fields (room_of c.args.mtu 20) c.in-Ok.packet.1 =
+    c.in_ok-pieces.ensures ∙ (λ i. ip4_pieces (c.fields.ensures.value i) (c.room_of.ensures i) (payload i)) in
+    on_ok c.append.result
+    (λ added h rest read bare. in_pieces c.args.mtu bytes c.args.out.now c.append.new.out c.in-Ok.packet (h, rest)
+    c.in-Ok.ensures.value read bare c.in_ok-pieces.pieces longer are added)
+    c.append.ensures.ok

@@ -1,0 +1,113 @@
+//! Packets that are longer than a link takes, cut.
+ghost use Rattle.std.specs.Prelude.{◌≤◌};
+
+use crate::{cut4, encap_cut};
+use aftr_base::{Ip4, Ip6, NoMemory, Packets};
+use arrayvec::ArrayVec;
+use std::alloc::Global;
+use std::test::Fail;
+use wire_ip4::{Ip4Fields, Ip4View, write_header};
+
+// a UDP packet of so many bytes behind its header, which are zero
+fn packet(alloc: Global, len: u16) -> Result<Vec<u8>, NoMemory>
+    requires { len ≤ 2000 }
+{
+    let fields = Ip4Fields {
+        tos: 0x28,
+        total: 20 + len,
+        id: 9,
+        dont_cut: false,
+        more: false,
+        offset: 0,
+        ttl: 64,
+        proto: 17,
+        src: Ip4(0xcb00_7105),
+        dst: Ip4(0xc000_0208),
+    };
+    let mut header = ArrayVec::new();
+    write_header(&fields, &mut header);
+    let mut bytes = Vec::from_slice(alloc, header.as_slice())?;
+    for _ in 0..len {
+        bytes.push(0)?;
+    }
+    Ok(bytes)
+}
+
+// cuts the packet at the front of these bytes, and tells whether it is a whole one without options
+fn cut(bytes: &[u8], mtu: u16, out: &mut Packets) -> Result<bool, NoMemory>
+    requires { 576 ≤ mtu }
+{
+    let Ok(view) = Ip4View::read(bytes) else {
+        return Ok(false);
+    };
+    if view.has_options() || view.fields().is_piece() {
+        return Ok(false);
+    }
+    cut4(bytes, mtu, out)?;
+    Ok(true)
+}
+
+// puts a packet into a softwire of this MTU, and tells whether it was cut
+fn put(inner: &[u8], mtu: u16, out: &mut Packets) -> Result<bool, NoMemory>
+    requires { 1280 ≤ mtu }
+{
+    if inner.len() > 65535 {
+        return Ok(false);
+    }
+    let aftr = Ip6(0x2001_0db8_0000_0000_0000_0000_0000_0001);
+    let softwire = Ip6(0x2001_0db8_0100_0000_0000_0000_0000_0002);
+    encap_cut(inner, 0x28, aftr, softwire, mtu, 0, out)
+}
+
+// how long a piece is, its offset in units of 8 bytes, and whether others follow
+fn shape(piece: &[u8]) -> (usize, u16, bool) {
+    match Ip4View::read(piece) {
+        Ok(view) => (piece.len(), view.fields().offset, view.fields().more),
+        Err(_) => (0, 0, false),
+    }
+}
+
+// whether these bytes stand at an offset
+fn has_at(bytes: &[u8], at: usize, part: &[u8]) -> bool {
+    at <= bytes.len() && bytes[at..].starts_with(part)
+}
+
+#[test]
+fn a_packet_for_the_public_side(rt: HostRuntime) -> Result<(), Fail> {
+    let mut out = Packets::new(rt.alloc());
+    let long = packet(rt.alloc(), 1500)?;
+    assert!(rt; cut(&long, 1500, &mut out)?);
+    let short = packet(rt.alloc(), 1480)?;
+    assert!(rt; cut(&short, 1500, &mut out)?);
+    let pieces = out.into_vec();
+    match pieces.as_slice() {
+        [first, second, whole] => {
+            assert_eq!(rt; shape(first), (1500, 0, true));
+            assert_eq!(rt; shape(second), (40, 0xb9, false));
+            assert!(rt; whole.as_slice() == short.as_slice());
+        }
+        _ => assert!(rt; false),
+    }
+    Ok(())
+}
+
+#[test]
+fn a_packet_for_a_softwire(rt: HostRuntime) -> Result<(), Fail> {
+    let mut out = Packets::new(rt.alloc());
+    let inner = packet(rt.alloc(), 1280)?;
+    assert!(rt; put(&inner, 1280, &mut out)?);
+    assert!(rt; !put(&inner, 1340, &mut out)?);
+    let pieces = out.into_vec();
+    match pieces.as_slice() {
+        [first, second, whole] => {
+            assert_eq!(rt; first.len(), 1280);
+            assert!(rt; has_at(first, 0, &[0x62, 0x80, 0, 0, 0x04, 0xd8, 44, 64]));
+            assert!(rt; has_at(first, 40, &[4, 0, 0, 1, 0, 0, 0, 0, 0x45, 0x28]));
+            assert_eq!(rt; second.len(), 116);
+            assert!(rt; has_at(second, 40, &[4, 0, 0x04, 0xd0, 0, 0, 0, 0]));
+            assert_eq!(rt; whole.len(), 1340);
+        }
+        _ => assert!(rt; false),
+    }
+    Ok(())
+}
