@@ -241,7 +241,8 @@ def compare_stream(comparison: Comparison, seed: int, number: int, traces: int) 
     rng = random.Random(f"{seed} {number}")
     label = f"seed {seed}, stream {number}"
     rare = {10: streams.full_block, 30: streams.long_input, 60: streams.full_pool, 80: streams.long_input}
-    usual = streams.ordinary if rng.random() < 0.75 else streams.mutated
+    kind = rng.random()
+    usual = streams.ordinary if kind < 0.6 else streams.connections if kind < 0.75 else streams.mutated
     compare_run(comparison, label, rng, rare.get(number % 100, usual)(rng), traces)
     if number % 100 == 40:
         compare_cuts(comparison, label, rng)

@@ -27,6 +27,7 @@ POOL = range(0xC000_0208, 0xC000_020C)  # 192.0.2.8/30
 BLOCK_SIZE = 512
 FIRST_PORTS = range(1024, 65536 - BLOCK_SIZE + 1, BLOCK_SIZE)
 IDLE = 300_000  # how long a UDP peer is kept (RFC 4787 4.3 asks for two minutes at least)
+TCP_IDLE, TCP_SHORT_IDLE = 7_440_000, 240_000  # a TCP peer, and one that opens or ends (RFC 5382 5, REQ-5)
 HOLD = 120_000  # how long a closed block is kept from other subscribers (RFC 6888 3, REQ-8)
 MAX_MAPPINGS, MAX_PEERS, MAX_BLOCKS = 4_096, 16_384, 8  # of one subscriber (RFC 6888 3, REQ-4)
 MAX_CLOSINGS = 512  # at one moment; the pool has 504 blocks, so no run comes to it
@@ -35,8 +36,9 @@ SOFTWIRE_MTU = PUBLIC_MTU = 1500
 LAST_INPUT_MOMENT = 4_294_963_695_999
 
 SOFTWIRE, PUBLIC, TICK, CHANGE = 1, 2, 3, 4
-HOP_BY_HOP, IPV4_IN_IPV6, UDP, FRAGMENT, DESTINATION_OPTIONS = 0, 4, 17, 44, 60
-IPV6_HEADER, IPV4_HEADER, UDP_HEADER, FRAGMENT_HEADER = 40, 20, 8, 8
+HOP_BY_HOP, IPV4_IN_IPV6, TCP, UDP, FRAGMENT, DESTINATION_OPTIONS = 0, 4, 6, 17, 44, 60
+IPV6_HEADER, IPV4_HEADER, TCP_HEADER, UDP_HEADER, FRAGMENT_HEADER = 40, 20, 20, 8, 8
+FIN, SYN, RST, ACK = 1, 2, 4, 16
 MORE_FRAGMENTS, FRAGMENT_OFFSET, DONT_FRAGMENT = 0x2000, 0x1FFF, 0x4000
 # The causes that are given today, in the order of the report.
 CAUSES = (
@@ -64,6 +66,21 @@ class Inner(NamedTuple):
     softwire: int
     address: int
     port: int
+    protocol: int = UDP
+
+
+class Remote(NamedTuple):
+    """Who a mapping was used for: an address, and of TCP its port too."""
+
+    address: int
+    port: int = 0
+
+
+class Peer(NamedTuple):
+    """How far the connection with a remote is, and the moment at which it is forgotten."""
+
+    state: str
+    deadline: int
 
 
 class Record(NamedTuple):
@@ -76,11 +93,41 @@ class Record(NamedTuple):
 
 @dataclass
 class Mapping:
-    """The external place of an inner one, with the remote addresses it sent to and the deadline of each."""
+    """The external place of an inner one, with the remotes it sent to."""
 
     inner: Inner
+    owner: Prefix
     place: Place
-    deadlines: Dict[int, int] = field(default_factory=dict)
+    peers: Dict[Remote, Peer] = field(default_factory=dict)
+
+
+# ---- TCP connections (RFC 5382 5, RFC 7857 2)
+
+# The state after a segment that goes out and that comes in, with an RST, else a FIN, else a SYN without ACK, else none of these.
+AFTER = {
+    "Opening": ("Ending Opening Opening Opening", "Ending HalfIn Open Open"),
+    "Open": ("Ending HalfOut Open Open", "Ending HalfIn Open Open"),
+    "HalfOut": ("Ending HalfOut HalfOut HalfOut", "Ending Ending HalfOut HalfOut"),
+    "HalfIn": ("Ending Ending HalfIn HalfIn", "Ending HalfIn HalfIn HalfIn"),
+    "Ending": ("Ending Ending Opening Ending", "Ending Ending Ending Ending"),
+}
+
+
+def state_after(state: Optional[str], packet: bytes, is_outbound: bool) -> str:
+    """The state of a peer after a packet, where it had this state before, if there was one."""
+    if packet[9] != TCP:
+        return "Open"
+    flags = packet[33]
+    if state is None:
+        return "Ending" if flags & RST else "Opening"
+    signal = 0 if flags & RST else 1 if flags & FIN else 2 if flags & (SYN | ACK) == SYN else 3
+    return AFTER[state][0 if is_outbound else 1].split()[signal]
+
+
+def idle_of(protocol: int, state: str) -> int:
+    if protocol != TCP:
+        return IDLE
+    return TCP_SHORT_IDLE if state in ("Opening", "Ending") else TCP_IDLE
 
 
 # ---- packets
@@ -150,16 +197,19 @@ def ipv4_packet(data: bytes) -> bytes:
     return data[:total]
 
 
-def require_udp(packet: bytes) -> None:
-    """The transport of an IPv4 packet: a UDP datagram (RFC 768) that has a hop to spare."""
-    require(packet[9] == UDP, "NoProtocol")
+def require_transport(packet: bytes) -> None:
+    """The transport of an IPv4 packet: a UDP datagram (RFC 768) or a TCP segment (RFC 9293 3.1) with a hop to spare."""
+    require(packet[9] in (TCP, UDP), "NoProtocol")
     require(packet[8] >= 2, "TtlSpent")
     room = len(packet) - IPV4_HEADER
-    require(room >= UDP_HEADER and UDP_HEADER <= word(packet, 24) <= room, "BadPacket")
+    if packet[9] == TCP:
+        require(room >= TCP_HEADER and TCP_HEADER <= 4 * (packet[32] >> 4) <= room, "BadPacket")
+    else:
+        require(room >= UDP_HEADER and UDP_HEADER <= word(packet, 24) <= room, "BadPacket")
 
 
 def from_softwire(data: bytes) -> Tuple[int, bytes]:
-    """The softwire of a subscriber's packet (RFC 6333) and the UDP packet in it, or the first drop that applies."""
+    """The softwire of a subscriber's packet (RFC 6333) and the packet in it, or the first drop that applies."""
     payload = ipv6_payload(data)
     require(number(data, 24, 16) == AFTR, "NotUs")
     header, payload = behind_options(data[6], payload)
@@ -172,7 +222,7 @@ def from_softwire(data: bytes) -> Tuple[int, bytes]:
     source, destination = number(packet, 12, 4), number(packet, 16, 4)
     is_tunnel = 0xC000_0000 <= destination <= 0xC000_0007  # 192.0.0.0/29 (RFC 6333 5.7)
     require(is_routed(source) and is_routed(destination) and not is_tunnel, "NoRoute")
-    require_udp(packet)
+    require_transport(packet)
     is_whole = destination in POOL or len(packet) <= PUBLIC_MTU
     require(is_whole or word(packet, 6) & DONT_FRAGMENT == 0, "TooBig")
     require(is_whole and destination not in POOL, "NoProtocol")
@@ -180,29 +230,34 @@ def from_softwire(data: bytes) -> Tuple[int, bytes]:
 
 
 def from_public(data: bytes) -> bytes:
-    """The UDP packet of the public side to the pool, or the first drop that applies."""
+    """The packet of the public side to the pool, or the first drop that applies."""
     packet = ipv4_packet(data)
     source, destination = number(packet, 12, 4), number(packet, 16, 4)
     require(destination in POOL, "NotUs")
     require(not is_piece(packet), "NoProtocol")
     require(is_routed(source) and source not in POOL, "NoRoute")
-    require_udp(packet)
+    require_transport(packet)
     return packet
 
 
 def covered(packet: bytes) -> bytes:
-    """What the checksum of a packet's UDP datagram covers, with zeros behind an odd end (RFC 768)."""
-    datagram = packet[IPV4_HEADER : IPV4_HEADER + word(packet, 24)]
-    pseudo = packet[12:20] + bytes([0, UDP]) + packet[24:26]
-    return pseudo + datagram + bytes(len(datagram) % 2)
+    """What the checksum of a packet's transport covers, with zeros behind an odd end (RFC 768, RFC 9293 3.1)."""
+    length = word(packet, 24) if packet[9] == UDP else len(packet) - IPV4_HEADER
+    transport = packet[IPV4_HEADER : IPV4_HEADER + length]
+    return packet[12:20] + struct.pack(">BBH", 0, packet[9], length) + transport + bytes(length % 2)
+
+
+def sum_place(packet: bytes) -> int:
+    """Where the checksum of a packet's transport stands."""
+    return IPV4_HEADER + (16 if packet[9] == TCP else 6)
 
 
 def moved(packet: bytes, is_source: bool, place: Place) -> bytes:
     """The packet with this place as source or destination and one hop less.
 
-    Its header's checksum is computed anew, and so is that of the datagram where it was right. One that was wrong is as
-    wrong afterwards: it changes by what is added and taken away, modulo 65535 (RFC 1624). None stays none, and a sum of
-    0 is sent as its other form (RFC 768).
+    Its header's checksum is computed anew, and so is that of the transport where it was right. One that was wrong is as
+    wrong afterwards: it changes by what is added and taken away, modulo 65535 (RFC 1624). Of UDP none stays none, and a
+    sum of 0 is sent as its other form (RFC 768).
     """
     address_at, port_at = (12, 20) if is_source else (16, 22)
     out = bytearray(packet)
@@ -211,17 +266,18 @@ def moved(packet: bytes, is_source: bool, place: Place) -> bytes:
     out[port_at : port_at + 2] = place.port.to_bytes(2, "big")
     out[10:12] = bytes(2)
     out[10:12] = checksum(bytes(out[:IPV4_HEADER])).to_bytes(2, "big")
-    if word(packet, 26) == 0:
+    sum_at, is_udp = sum_place(packet), packet[9] == UDP
+    if is_udp and word(packet, sum_at) == 0:
         return bytes(out)
     if checksum(covered(packet)) == 0:
-        out[26:28] = bytes(2)
+        out[sum_at : sum_at + 2] = bytes(2)
         found = checksum(covered(bytes(out)))
     else:
         taken, added = (
             sum_of(data[address_at : address_at + 4]) + word(data, port_at) for data in (packet, bytes(out))
         )
-        found = (word(packet, 26) + taken - added) % 0xFFFF
-    out[26:28] = (found or 0xFFFF).to_bytes(2, "big")
+        found = (word(packet, sum_at) + taken - added) % 0xFFFF
+    out[sum_at : sum_at + 2] = (0xFFFF if is_udp and found == 0 else found).to_bytes(2, "big")
     return bytes(out)
 
 
@@ -288,8 +344,8 @@ class Translator:
     def expire(self) -> None:
         """Peers go at their deadline, mappings with their last peer, leases with their last mapping."""
         for mapping in self.mappings.values():
-            mapping.deadlines = {remote: end for remote, end in mapping.deadlines.items() if end > self.clock}
-        self.mappings = {inner: mapping for inner, mapping in self.mappings.items() if mapping.deadlines}
+            mapping.peers = {remote: peer for remote, peer in mapping.peers.items() if peer.deadline > self.clock}
+        self.mappings = {inner: mapping for inner, mapping in self.mappings.items() if mapping.peers}
         used = {block_of(mapping.place) for mapping in self.mappings.values()}
         still_open = [lease for lease in self.leases if lease.until is None]
         self.batch.closings = [lease for lease in still_open if (lease.address, lease.first) not in used][:MAX_CLOSINGS]
@@ -309,41 +365,54 @@ class Translator:
             self.inbound(from_public(record.body))
 
     def outbound(self, softwire: int, packet: bytes) -> None:
-        inner = Inner(softwire, number(packet, 12, 4), word(packet, 20))
-        remote = number(packet, 16, 4)
-        mapping = self.mappings.get(inner)
+        inner = Inner(softwire, number(packet, 12, 4), word(packet, 20), packet[9])
+        remote = remote_of(packet, 16, 22)
+        owner, mapping = subscriber_of(softwire), self.mappings.get(inner)
         if mapping is None:
-            mapping = self.mappings[inner] = Mapping(inner, self.new_place(subscriber_of(softwire)))
-        elif remote not in mapping.deadlines and self.peers_of(subscriber_of(softwire)) >= MAX_PEERS:
-            raise Drop("QuotaPeers")
-        mapping.deadlines[remote] = self.clock + IDLE
+            mapping = self.mappings[inner] = Mapping(inner, owner, self.new_place(owner, packet[9]))
+        elif remote not in mapping.peers:
+            require(peers_of(self.rows_of(owner)) < MAX_PEERS, "QuotaPeers")
+        known = mapping.peers.get(remote)
+        self.keep(mapping, remote, state_after(known.state if known else None, packet, True))
         if self.horizon < self.clock:
             self.horizon = self.batch.horizon = self.clock + self.config.horizon
         self.send(PUBLIC, moved(packet, True, mapping.place))
 
     def inbound(self, packet: bytes) -> None:
         place = Place(number(packet, 16, 4), word(packet, 22))
-        inners = [mapping.inner for mapping in self.mappings.values() if mapping.place == place]
-        require(len(inners) == 1, "NoMapping")
-        whole = encapsulated(moved(packet, False, Place(inners[0].address, inners[0].port)), inners[0].softwire)
+        found = [row for row in self.mappings.values() if row.place == place and row.inner.protocol == packet[9]]
+        require(len(found) == 1, "NoMapping")
+        inner = found[0].inner
+        whole = encapsulated(moved(packet, False, Place(inner.address, inner.port)), inner.softwire)
         require(len(whole) <= SOFTWIRE_MTU, "NoProtocol")
+        self.follow(found[0], packet)
         self.send(SOFTWIRE, whole)
 
+    def follow(self, mapping: Mapping, packet: bytes) -> None:
+        """A segment that comes in may move the state of the peer that it is from, and its deadline with it."""
+        remote = remote_of(packet, 12, 20)
+        peer = mapping.peers.get(remote)
+        if packet[9] == TCP and peer is not None:
+            state = state_after(peer.state, packet, False)
+            if state != peer.state:
+                self.keep(mapping, remote, state)
+
+    def keep(self, mapping: Mapping, remote: Remote, state: str) -> None:
+        mapping.peers[remote] = Peer(state, self.clock + idle_of(mapping.inner.protocol, state))
+
     def rows_of(self, owner: Prefix) -> List[Mapping]:
-        return [row for inner, row in self.mappings.items() if subscriber_of(inner.softwire) == owner]
+        return [row for row in self.mappings.values() if row.owner == owner]
 
-    def peers_of(self, owner: Prefix) -> int:
-        return sum(len(row.deadlines) for row in self.rows_of(owner))
-
-    def new_place(self, owner: Prefix) -> Place:
+    def new_place(self, owner: Prefix, protocol: int) -> Place:
         """The least free port of the subscriber's open blocks, in order of opening, or the first of a further block."""
-        require(len(self.rows_of(owner)) < MAX_MAPPINGS, "QuotaMappings")
-        require(self.peers_of(owner) < MAX_PEERS, "QuotaPeers")
-        used = {mapping.place for mapping in self.mappings.values()}
+        rows = self.rows_of(owner)
+        require(len(rows) < MAX_MAPPINGS, "QuotaMappings")
+        require(peers_of(rows) < MAX_PEERS, "QuotaPeers")
+        used = {(row.place.address, row.place.port) for row in rows if row.inner.protocol == protocol}
         own = [lease for lease in self.leases if lease.owner == owner and lease.until is None]
         for lease in own:
             for port in range(lease.first, lease.last + 1):
-                if Place(lease.address, port) not in used:
+                if (lease.address, port) not in used:
                     return Place(lease.address, port)
         require(len(own) < MAX_BLOCKS, "QuotaBlocks")
         if own:
@@ -377,6 +446,15 @@ class Translator:
         lines = [f"records {self.records}", f"sent {self.packets}", "marks 0"]
         lines += [f"drop {cause} {self.drops[cause]}" for cause in CAUSES if self.drops[cause]]
         return "".join(line + "\n" for line in lines)
+
+
+def peers_of(rows: List[Mapping]) -> int:
+    return sum(len(row.peers) for row in rows)
+
+
+def remote_of(packet: bytes, address_at: int, port_at: int) -> Remote:
+    """The remote end of a packet: TCP's has a port (RFC 5382 4)."""
+    return Remote(number(packet, address_at, 4), word(packet, port_at) if packet[9] == TCP else 0)
 
 
 def subscriber_of(softwire: int) -> Prefix:

@@ -3,11 +3,12 @@
 from __future__ import annotations
 
 import struct
-from typing import NamedTuple, Optional
+from typing import NamedTuple, Optional, Union
 
 AFTR = 0x2001_0DB8_0000_0000_0000_0000_0000_0001
 AGGREGATE = 0x2001_0DB8_0100_0000_0000_0000_0000_0000
-UDP, IPV4_IN_IPV6 = 17, 4
+TCP, UDP, IPV4_IN_IPV6 = 6, 17, 4
+FIN, SYN, RST, ACK = 1, 2, 4, 16
 DONT_FRAGMENT, MORE_FRAGMENTS, RESERVED = 0x4000, 0x2000, 0x8000
 FROM_SOFTWIRE, FROM_PUBLIC, TICK, CHANGE = 1, 2, 3, 4
 
@@ -66,15 +67,55 @@ class Udp(NamedTuple):
         return ports + struct.pack(">HH", field, right if self.udp_sum is None else self.udp_sum) + self.payload
 
     def spelled(self) -> bytes:
-        body = self.datagram()
-        words = 5 + len(self.options) // 4 if self.words is None else self.words
-        total = 20 + len(self.options) + len(body) if self.total is None else self.total
-        first = struct.pack(">BBHH", self.version << 4 | words, self.tos, total, self.ident)
-        front = first + struct.pack(">HBB", self.fragment, self.ttl, self.proto)
-        behind = struct.pack(">II", self.source, self.destination) + self.options
-        right = checksum(front + bytes(2) + behind)
-        header = front + struct.pack(">H", (right + self.sum_wrong_by) % 0x1_0000) + behind
-        return (header + body)[: self.kept]
+        return spelled_ipv4(self, self.datagram())
+
+
+class Tcp(NamedTuple):
+    """An IPv4 packet with a TCP segment. What is None is what it should be."""
+
+    source: int = quad("192.0.0.2")
+    source_port: int = 5000
+    destination: int = quad("203.0.113.5")
+    port: int = 80
+    payload: bytes = b"abcd"
+    flags: int = SYN
+    version: int = 4
+    words: Optional[int] = None  # the header's length in its field
+    tos: int = 0
+    total: Optional[int] = None
+    ident: int = 1
+    fragment: int = 0  # the flags and the fragment offset
+    ttl: int = 64
+    proto: int = TCP
+    sum_wrong_by: int = 0
+    options: bytes = b""
+    tcp_options: bytes = b""
+    tcp_words: Optional[int] = None  # the segment's data offset
+    tcp_sum: Optional[int] = None
+    kept: Optional[int] = None  # so many of its bytes are left
+
+    def segment(self) -> bytes:
+        words = 5 + len(self.tcp_options) // 4 if self.tcp_words is None else self.tcp_words
+        front = struct.pack(">HHIIBBH", self.source_port, self.port, 1000, 2000, words << 4, self.flags, 8192)
+        behind = bytes(2) + self.tcp_options + self.payload
+        length = len(front) + 2 + len(behind)
+        right = checksum(struct.pack(">IIHH", self.source, self.destination, TCP, length) + front + bytes(2) + behind)
+        return front + struct.pack(">H", right if self.tcp_sum is None else self.tcp_sum) + behind
+
+    def spelled(self) -> bytes:
+        return spelled_ipv4(self, self.segment())
+
+
+def spelled_ipv4(packet: Union[Udp, Tcp], body: bytes) -> bytes:
+    """The IPv4 header of a packet, and its transport behind it."""
+    words = 5 + len(packet.options) // 4 if packet.words is None else packet.words
+    total = 20 + len(packet.options) + len(body) if packet.total is None else packet.total
+    first = struct.pack(">BBHH", packet.version << 4 | words, packet.tos, total, packet.ident)
+    front = first + struct.pack(">HBB", packet.fragment, packet.ttl, packet.proto)
+    behind = struct.pack(">II", packet.source, packet.destination) + packet.options
+    right = checksum(front + bytes(2) + behind)
+    header = front + struct.pack(">H", (right + packet.sum_wrong_by) % 0x1_0000) + behind
+    return (header + body)[: packet.kept]
 
 
 class Softwire(NamedTuple):

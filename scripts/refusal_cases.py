@@ -9,8 +9,8 @@ from __future__ import annotations
 
 from typing import Any, Dict, Iterator, List, NamedTuple, Optional, Sequence
 
-from packets import AFTR, DONT_FRAGMENT, FROM_PUBLIC, FROM_SOFTWIRE, MORE_FRAGMENTS, RESERVED, Softwire, Udp
-from packets import frame, quad, softwire_of
+from packets import ACK, AFTR, DONT_FRAGMENT, FIN, FROM_PUBLIC, FROM_SOFTWIRE, MORE_FRAGMENTS, RESERVED, RST, SYN
+from packets import Softwire, Tcp, Udp, frame, quad, softwire_of
 
 MOMENT = 1_000_000
 FIRST_PACKET = frame(FROM_SOFTWIRE, MOMENT, Softwire().spelled())
@@ -74,11 +74,11 @@ UNROUTED = [
     Fault(f"a source of {text}", "NoRoute", {"source": quad(text)}) for text in ("0.0.0.1", "127.9.9.9", "224.0.0.1")
 ]
 TRANSPORTS = [
-    Fault("TCP", "NoProtocol", {"proto": 6}),
     Fault("ICMP", "NoProtocol", {"proto": 1}),
     Fault("GRE", "NoProtocol", {"proto": 47}),
     Fault("no hop", "TtlSpent", {"ttl": 0}),
     Fault("one hop", "TtlSpent", {"ttl": 1}),
+    Fault("no TCP segment", "BadPacket", {"proto": 6}),
     Fault("a datagram that is cut in its header", "BadPacket", {"total": 27}),
     Fault("a datagram's length below its header's", "BadPacket", {"udp_length": 7}),
     Fault("a datagram's length past its packet", "BadPacket", {"udp_length": 0xFFFF}),
@@ -164,6 +164,32 @@ def with_pairs(faults: Sequence[Fault]) -> Iterator[Fault]:
         yield from (pair for pair in pairs if pair is not None)
 
 
+def segments() -> Iterator[Refusal]:
+    """TCP: what passes, what is no segment, and what finds no mapping, as the port's mapping is UDP's."""
+    passing: Dict[str, Changes] = {
+        "a SYN": {},
+        "a segment with options": {"tcp_options": bytes(40), "flags": SYN | ACK},
+        "an RST that begins": {"flags": RST},
+        "a FIN that begins": {"flags": FIN | ACK},
+        "a wrong sum": {"tcp_sum": 0x1234},
+        "as long as may be": {"fragment": DONT_FRAGMENT, "payload": bytes(MTU - 40)},
+    }
+    bad: Dict[str, Changes] = {
+        "a segment that is cut in its header": {"total": 39},
+        "a header of four words": {"tcp_words": 4},
+        "a header past the segment": {"tcp_words": 7},
+    }
+    back: Changes = {"source": REPLY.source, "destination": REPLY.destination, "port": REPLY.port}
+    for name, changes in passing.items():
+        yield from_subscriber(f"TCP, {name}", None, {}, {"inner": Tcp(**changes).spelled()})
+    for name, changes in bad.items():
+        yield from_subscriber(f"TCP, {name}", "BadPacket", {}, {"inner": Tcp(**changes).spelled()})
+        body = Tcp(**{**changes, **back}).spelled()
+        yield Refusal(f"in: TCP, {name}", input_of(body, FROM_PUBLIC, False), "BadPacket")
+    to_udp = Tcp(**back, flags=SYN | ACK).spelled()
+    yield Refusal("in: TCP, to the port of a UDP mapping", input_of(to_udp, FROM_PUBLIC, False), "NoMapping")
+
+
 # Pairs of neighbours that are faults of one field, and packets that a rule leaves to a later one.
 MORE_FROM_SUBSCRIBERS = [
     from_subscriber("a piece that may not be cut", "NoProtocol", {"fragment": DONT_FRAGMENT | MORE_FRAGMENTS}, {}),
@@ -236,8 +262,6 @@ def refused_grants() -> Iterator[Refusal]:
     to_pool: Changes = {"destination": quad("192.0.2.8")}
     yield last("all mappings", all_mappings, "QuotaMappings", last_port)
     yield last("all mappings, to the pool", all_mappings, "NoProtocol", {**last_port, **to_pool})
-    yield last("all mappings, may not be cut", all_mappings, "TooBig", {**last_port, **TOO_LONG})
-    yield last("all mappings, would be cut", all_mappings, "NoProtocol", {**last_port, **TOO_LONG, "fragment": 0})
     yield last("a full address", full_address, "AddressFull", other_port)
     yield last("a full address, to the pool", full_address, "NoProtocol", {**other_port, **to_pool})
     yield last("a full pool", full_pool, "PoolEmpty", {}, 504)
@@ -257,4 +281,5 @@ def refusals() -> Iterator[Refusal]:
     yield from MORE_FROM_SUBSCRIBERS
     yield from MORE_FROM_OUTSIDE
     yield from PASSING
+    yield from segments()
     yield from refused_grants()

@@ -9,8 +9,8 @@ from typing import List, NamedTuple, Optional, Sequence
 
 import model
 from log_form import Place, Told
-from model import CHANGE, PUBLIC, SOFTWIRE, TICK, Inner, Translator
-from packets import Softwire, Udp, checksum, softwire_of
+from model import CHANGE, PUBLIC, SOFTWIRE, TCP, TICK, UDP, Inner, Mapping, Remote, Translator
+from packets import ACK, FIN, RST, SYN, Softwire, Tcp, Udp, checksum, softwire_of
 from refusal_cases import FROM_OUTSIDE, FROM_SUBSCRIBERS, Fault
 
 RUN = ["run", "config", "log", "out", "in"]
@@ -72,6 +72,14 @@ UDP_EDITS = [
     Edit(24, 2, (0, 7, 8, 9, 0xFFFF)),
     Edit(26, 2, (0, 0, 1, 0x8000, 0xFFFE, 0xFFFF)),  # checksum
 ]
+TCP_EDITS = [
+    Edit(20, 2, (0, 1, 0xFFFF)),  # source port
+    Edit(22, 2, (0, 1, 0xFFFF)),  # destination port
+    Edit(32, 1, (0x00, 0x40, 0x50, 0x5F, 0x60, 0xF0)),  # data offset
+    Edit(33, 1, range(64)),  # control bits
+    Edit(36, 2, (0, 1, 0x8000, 0xFFFE, 0xFFFF)),  # checksum
+]
+FLAGS = [SYN, SYN | ACK, ACK, ACK, ACK | 8, FIN, FIN | ACK, FIN | SYN, RST, RST | ACK, RST | FIN | SYN, 0]
 IPV6_EDITS = [
     Edit(0, 1, (0x00, 0x45, 0x50, 0x70, 0xF0)),  # version
     Edit(0, 4, (0x600F_FFFF, 0x6FF0_0000, 0x6000_0001, 0x6ABC_DEF0)),  # traffic class and flow label
@@ -102,7 +110,8 @@ EXTENSIONS = [
 def edited(rng: random.Random, packet: bytearray) -> bytearray:
     """The IPv4 packet after an edit or two, mostly with its header's checksum made right again; or cut."""
     for _ in range(rng.choice((1, 1, 1, 2))):
-        rng.choice(rng.choice((IPV4_EDITS, IPV4_EDITS, UDP_EDITS))).apply(rng, packet)
+        transport = TCP_EDITS if packet[9] == TCP and len(packet) >= 40 else UDP_EDITS
+        rng.choice(rng.choice((IPV4_EDITS, IPV4_EDITS, transport))).apply(rng, packet)
     with_sum(packet)
     if rng.random() < 0.15:
         rng.choice(SUM_EDITS).apply(rng, packet)
@@ -112,11 +121,12 @@ def edited(rng: random.Random, packet: bytearray) -> bytearray:
 
 
 def with_sums_to_zero(rng: random.Random, packet: bytearray, is_source: bool, place: Place) -> bytearray:
-    """The packet with a sum that is zero once it moves to this place, UDP's or IPv4's; or zero before it moves."""
+    """The packet with a sum that is zero once it moves to this place, the transport's or IPv4's; or zero before it moves."""
     if rng.random() < 0.6:
-        packet[26:28] = b"\0\1"
-        from_one = model.word(model.moved(packet, is_source, place), 26)
-        packet[26:28] = struct.pack(">H", (1 - from_one) % 0xFFFF or 0xFFFF)
+        at = model.sum_place(packet)
+        packet[at : at + 2] = b"\0\1"
+        from_one = model.word(model.moved(packet, is_source, place), at)
+        packet[at : at + 2] = struct.pack(">H", (1 - from_one) % 0xFFFF or 0xFFFF)
         return packet
     at_zero = packet if rng.random() < 0.5 else with_sum(bytearray(model.moved(packet, is_source, place)))
     packet[4:6] = struct.pack(">H", (model.word(packet, 4) + model.word(at_zero, 10)) % 0xFFFF)
@@ -152,7 +162,7 @@ class Session:
         if clock == 0:
             return self.rng.choice((0, self.start, self.start))
         edges = [self.state.horizon, self.state.floor]
-        edges += [end for mapping in self.state.mappings.values() for end in mapping.deadlines.values()]
+        edges += [peer.deadline for mapping in self.state.mappings.values() for peer in mapping.peers.values()]
         edges += [lease.until + model.HOLD for lease in self.state.leases if lease.until is not None]
         edges = [edge for edge in edges if edge >= clock - 1] or [clock + 1]
         step = self.rng.random()
@@ -186,11 +196,16 @@ class Session:
     def outbound(self) -> None:
         """A packet of a subscriber, which may be edited at every layer, or break a rule or more."""
         rng = self.rng
-        inner = Inner(rng.choice(self.softwires), rng.choice(INNERS), rng.choice(self.ports))
+        protocol = rng.choice((UDP, UDP, TCP))
+        inner = Inner(rng.choice(self.softwires), rng.choice(INNERS), rng.choice(self.ports), protocol)
         remote, port = rng.choice(REMOTES), rng.choice((53, 99))
+        around = Softwire(source=inner.softwire)
+        if protocol == TCP and rng.random() < 0.8:
+            self.segment_out(inner, Remote(remote, port))
+            return
         payload = self.payload((1471, 1472, 1473))
         udp = Udp(inner.address, inner.port, remote, port, payload, ident=rng.randrange(65536))
-        around = Softwire(source=inner.softwire)
+        inner = inner._replace(protocol=UDP)
         if rng.random() < 0.2:
             for fault in self.faults(FROM_SUBSCRIBERS):
                 udp, around = udp._replace(**fault.udp), around._replace(**fault.around)
@@ -216,11 +231,42 @@ class Session:
             whole += bytes(65575 - len(whole))  # the longest record
         self.add(SOFTWIRE, whole)
 
+    def segment_out(self, inner: Inner, remote: Remote) -> None:
+        """A TCP segment of a subscriber, which may be edited."""
+        rng = self.rng
+        flags, options = rng.choice(FLAGS), bytes(rng.choice((0, 0, 4, 40)))
+        payload = self.payload((1459, 1460, 1461))
+        tcp = Tcp(inner.address, inner.port, remote.address, remote.port, payload, flags, tcp_options=options)
+        packet = bytearray(tcp.spelled())
+        mapping = self.state.mappings.get(inner)
+        if mapping is not None and rng.random() < 0.15:
+            packet = with_sums_to_zero(rng, packet, True, mapping.place)
+        elif rng.random() < 0.15:
+            packet = edited(rng, packet)
+        self.add(SOFTWIRE, Softwire(bytes(packet), inner.softwire).spelled())
+
+    def segment_in(self, mapping: Mapping) -> None:
+        """A TCP segment to a live place, mostly from a peer; it may be edited."""
+        rng = self.rng
+        beside = Remote(rng.choice(REMOTES), rng.choice((53, 99, 1000)))
+        remote = rng.choice(list(mapping.peers)) if rng.random() < 0.8 else beside
+        place, payload = mapping.place, self.payload((1419, 1420, 1421))
+        tcp = Tcp(remote.address, remote.port, place.address, place.port, payload, rng.choice(FLAGS))
+        packet = bytearray(tcp.spelled())
+        if rng.random() < 0.15:
+            packet = with_sums_to_zero(rng, packet, False, Place(mapping.inner.address, mapping.inner.port))
+        elif rng.random() < 0.15:
+            packet = edited(rng, packet)
+        self.add(PUBLIC, packet)
+
     def reply(self) -> None:
         """A packet to the pool: to a live place, to one that was live, or beside; it may break a rule or more."""
         rng = self.rng
         live = list(self.state.mappings.values())
         mapping = rng.choice(live) if live and rng.random() < 0.75 else None
+        if mapping is not None and mapping.inner.protocol == TCP and rng.random() < 0.9:
+            self.segment_in(mapping)
+            return
         beside = Place(rng.choice(model.POOL), rng.choice((0, 1, 1023, 1024, 1025, 1535, 1536, 1537, 2048, 65535)))
         remote = rng.choice(list(model.POOL) if rng.random() < 0.04 else REMOTES + INNERS)
         place = mapping.place if mapping else beside
@@ -322,6 +368,23 @@ def full_pool(rng: random.Random) -> Session:
         for subscriber in rng.sample(subscribers, 60):
             session.plain(softwire_of(subscriber, rng.choice((2, 3))), 5000, session.start + gap)
     session.add(TICK, b"", session.start + 900_000)
+    return session
+
+
+def connections(rng: random.Random) -> Session:
+    """Segments of a few TCP connections, from both sides, and ticks about the ends of their peers."""
+    session = Session(rng)
+    inners = [Inner(rng.choice(session.softwires), INNERS[0], port, TCP) for port in (5000, 5001)]
+    remotes = [Remote(address, port) for address in REMOTES[:2] for port in (80, 443)]
+    for _ in range(rng.randint(20, 120)):
+        live = [row for row in session.state.mappings.values() if row.inner.protocol == TCP]
+        step = rng.random()
+        if step < 0.45 or not live:
+            session.segment_out(rng.choice(inners), rng.choice(remotes))
+        elif step < 0.9:
+            session.segment_in(rng.choice(live))
+        else:
+            session.add(TICK, b"")
     return session
 
 
