@@ -41,6 +41,8 @@ mod replies;
 #[cfg(test)]
 mod restarts;
 #[cfg(test)]
+mod segments;
+#[cfg(test)]
 mod stops;
 #[cfg(test)]
 mod words;

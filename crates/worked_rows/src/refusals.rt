@@ -123,7 +123,7 @@ static TUNNELS: [Row; 8] = [
     ),
 ];
 
-static INNERS: [Row; 13] = [
+static INNERS: [Row; 14] = [
     (
         "version 6",
         "6500 0020 0001 0000 40 11 5ec4 c0000002 cb007105",
@@ -160,8 +160,13 @@ static INNERS: [Row; 13] = [
         TTL_SPENT,
     ),
     (
-        "TCP",
+        "TCP without a whole header",
         "4500 0020 0001 0000 40 06 7ecf c0000002 cb007105",
+        BAD_PACKET,
+    ),
+    (
+        "GRE",
+        "4500 0020 0001 0000 40 2f 7ea6 c0000002 cb007105",
         NO_PROTOCOL,
     ),
     (
