@@ -160,9 +160,9 @@ static INNERS: [Row; 13] = [
         TTL_SPENT,
     ),
     (
-        "TCP",
+        "a TCP segment of 12 bytes",
         "4500 0020 0001 0000 40 06 7ecf c0000002 cb007105",
-        NO_PROTOCOL,
+        BAD_PACKET,
     ),
     (
         "to the pool",
