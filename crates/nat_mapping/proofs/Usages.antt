@@ -2,7 +2,7 @@
 use Rattle.std.proofs.Common.{◌≡◌, ltb, ℕ, ◌+◌, ◌-◌, ◌^◌, ◌<◌, ◌≤◌, Bool, true, false, cond, List, length, get_or, take, drop, map, min}
 use Rattle.std.proofs.Common.{inl, inr, Option, Some, None, option_map, refl, sym, ap, ◌∙◌, ap₂, arith, [], ◌∷◌}
 use Rattle.std.specs.Prelude.{if◌then◌else◌}
-use Rattle.std.specs.List.{position, position_or_len, sum_by}
+use Rattle.std.specs.List.{position_or_len, sum_by}
 use Rattle.std.proofs.lemmas.Bool.{cases_lt, lt-ltb, le-ltb}
 use Rattle.std.proofs.lemmas.List.{get_or_default, get_or-drop, take_all, take-map, length-drop, length-map}
 use Rattle.std.proofs.lemmas.List.Sums.{position_or_len_is, sum_by_more}

@@ -1,6 +1,6 @@
 -- Mapping rows (RFC 4787 4), as a list in order of making.
 use Rattle.std.specs.Prelude.{◌≡◌, ◌<◌, ℕ, zero, suc, ◌+◌, ◌-◌, Bool, true, false, not, ◌&&◌, ◌==◌, nat_lt, List, [], ◌∷◌, ◌++◌, length, map, filter, find, sum_by}
-use Rattle.std.specs.Prelude.{◌^◌, min, take, Option, Some, None, option_map, if◌then◌else◌, slice_index}
+use Rattle.std.specs.Prelude.{All, ◌≤◌, ◌^◌, min, take, Option, Some, None, option_map, if◌then◌else◌, slice_index}
 use Rattle.std.specs.List.{list_any, position, range_with_len}
 use Rattle.std.specs.Vec.{vec_capacity, vec_len}
 use Rattle.aftr_base.specs.Value.{ip4_eq, place_eq, proto_eq, key_eq, subscriber_eq, is_within, place}
@@ -145,3 +145,8 @@ is_used r = nat_lt 0 (length r.peers)
 
 abbrev pub expired : ℕ → List Mapping → List Mapping
 expired now rows = filter is_used (map (live_peers now) rows)
+
+-- a row has peers, none of which goes before this moment
+pub record LastsUntil (at : ℕ) (r : Mapping) : Type 0 where
+  pub some : 0 < length r.peers
+  pub each : All (λ (p : Peer). at ≤ p.deadline.0) r.peers

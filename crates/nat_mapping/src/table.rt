@@ -5,7 +5,7 @@ ghost use Rattle.nat_mapping.specs.declared.row.Row.{Row};
 ghost use Rattle.nat_mapping.specs.Rows.{KeepsSpares, are_apart, expired, has_key, has_peer_at, has_place, holding_of, in_use, is_at, is_of, least_free, lies_in, mapping_of, peer_count, row_at, row_count, row_id, row_of, searched, spare_at, touched_at};
 
 use crate::ports;
-use crate::row::{Peer, Row, put_peer};
+use crate::row::{Peer, Row, earliest_of, put_peer};
 use crate::search::{self, Holding, Search};
 use aftr_base::{Ext, InnerKey, Ip4, Moment, NoMemory, Proto, Subscriber};
 use std::alloc::Global;
@@ -21,18 +21,21 @@ pub struct RowId(pub usize);
 #[derive(Drop)]
 pub struct Table {
     rows: Vec<Row>,
+    // no peer goes before this moment
+    earliest: Moment,
     alloc: Global,
 }
 
 impl Model for Table {
-    ghost use Rattle.std.specs.Prelude.{◌≡◌, map, true};
-    ghost use Rattle.nat_mapping.specs.Rows.{Mappings, are_apart, mapping_of, mappings, room_of};
+    ghost use Rattle.std.specs.Prelude.{◌≡◌, All, map, true};
+    ghost use Rattle.nat_mapping.specs.Rows.{LastsUntil, Mappings, are_apart, mapping_of, mappings, room_of};
 
     ghost Value = { Mappings };
 
     ghost view = { λ t. mappings (map mapping_of t.rows.items) (map room_of t.rows.items) };
 
-    ghost invariant = { λ t. are_apart (map mapping_of t.rows.items) ≡ true };
+    ghost invariant = { λ t. (are_apart (map mapping_of t.rows.items) ≡ true)
+        × All (LastsUntil t.earliest.0) (map mapping_of t.rows.items) };
 }
 
 impl Table {
@@ -42,6 +45,7 @@ impl Table {
     {
         Table {
             rows: Vec::new(alloc),
+            earliest: Moment(u64::MAX),
             alloc,
         }
     }
@@ -135,6 +139,7 @@ impl Table {
     {
         let mut peers = Vec::new(self.alloc);
         peers.push(peer)?;
+        self.earliest = Moment(self.earliest.0.min(peer.deadline.0));
         let id = RowId(self.rows.len());
         self.rows.push(Row {
             key,
@@ -154,18 +159,24 @@ impl Table {
         ensures spare { spare_at id.0 self.old ≤ spare_at id.0 self.new + 1 }
         ensures others { (k : ℕ) → k ≢ id.0 → spare_at k self.new ≡ spare_at k self.old }
     {
+        self.earliest = Moment(self.earliest.0.min(peer.deadline.0));
         let row = &mut self.rows[id.0];
         put_peer(&mut row.peers, peer);
     }
 
     /// Lets the peers go whose deadline is not past `now`, and then the rows that have none left
-    /// (RFC 4787 section 4.3). The answer is whether a row went. It takes no memory.
+    /// (RFC 4787 section 4.3). The answer is whether a row went. It takes no memory, and visits no row where no deadline has
+    /// come.
     pub fn expire(&mut self, now: Moment) -> bool
         ensures rows { self.new.rows ≡ expired now.0 self.old.rows }
         ensures gone { result ≡ nat_lt (length self.new.rows) (length self.old.rows) }
     {
+        if now.0 < self.earliest.0 {
+            return false;
+        }
         let before = self.rows.len();
         self.rows.retain_mut(|row| row.expire(now));
+        self.earliest = earliest_of(&self.rows);
         self.rows.len() < before
     }
 
@@ -174,6 +185,7 @@ impl Table {
         ensures { self.new.rows ≡ [] }
     {
         self.rows.clear();
+        self.earliest = Moment(u64::MAX);
     }
 
     /// The least port from `first` to `last`, both included, that no row of the protocol has at the

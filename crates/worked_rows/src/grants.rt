@@ -1,10 +1,10 @@
-//! Which places packets leave from under small quotas and blocks, and which are refused.
+//! Which places packets leave from under small quotas and blocks, and which are refused, also by a filter.
 
 use crate::logs::LogFile;
 use crate::octets::{list_of, octets};
 use aftr_base::{Ip4, Prefix4};
 use aftr_engine::run_config;
-use cfg_text::Config;
+use cfg_text::{Config, Filter};
 use plant_mem::{MemPlant, MemSink, NoFaultSource};
 use std::process::Abort;
 
@@ -47,6 +47,17 @@ impl Packets {
         self.push(rt, record.expect(rt, "memory for a packet").as_str());
     }
 
+    // From this port of 203.0.113.(5 + remote) to a port of 192.0.2.8.
+    fn add_reply<R: Abort + AllocGlobal>(&mut self, rt: &R, remote: u8, from: u16, port: u16) {
+        let low = remote.saturating_add(5);
+        let checksum = 0x7cb8 - u16::from(remote);
+        let record = format!(in rt.alloc();
+            "00000029 02 00000000000f4240
+            4500 0020 0007 0000 40 11 {checksum:04x} cb0071{low:02x} c0000208 {from:04x} {port:04x} 000c 0000 61626364\n"
+        );
+        self.push(rt, record.expect(rt, "memory for a packet").as_str());
+    }
+
     // A record that only tells the time.
     fn add_tick<R: Abort + AllocGlobal>(&mut self, rt: &R, at: u64) {
         let record = format!(in rt.alloc(); "00000009 03 {at:016x}\n");
@@ -58,14 +69,13 @@ impl Packets {
     }
 }
 
-// Runs over packets and compares the report and the places that they left from: address and port.
-fn check_places<R: Abort + AllocGlobal>(
+// Runs over packets, compares the report, and gives what it left.
+fn run_packets<R: Abort + AllocGlobal>(
     rt: &R,
     config: Config,
     packets: &Packets,
     report: &str,
-    places: &[(u8, u16)],
-) {
+) -> MemPlant {
     assert!(rt; config.accepted(), "an accepted configuration");
     assert_eq!(rt; config.ratio, 0);
     let input = octets(rt, &[packets.input.as_str()]);
@@ -75,6 +85,18 @@ fn check_places<R: Abort + AllocGlobal>(
     let mut sink = MemSink::new(rt.alloc(), list_of(rt, &[]));
     let _outcome = run_config(rt.alloc(), config, &mut inputs, &mut plant, &mut sink);
     assert_eq!(rt; str::from_utf8(sink.written()), Ok(report));
+    plant
+}
+
+// The same, where the places that packets left from are compared: address and port.
+fn check_places<R: Abort + AllocGlobal>(
+    rt: &R,
+    config: Config,
+    packets: &Packets,
+    report: &str,
+    places: &[(u8, u16)],
+) {
+    let plant = run_packets(rt, config, packets, report);
     compare_places(rt, plant.sent(), places);
 }
 
@@ -240,4 +262,18 @@ fn its_last_holder_has_it_back(rt: HostRuntime) {
     places.push((8, 1024)).expect(&rt, "memory for a place");
     let report = "records 7\nsent 6\nmarks 0\n";
     check_places(&rt, config, &packets, report, &places);
+}
+
+#[test]
+fn a_filter_by_address(rt: HostRuntime) {
+    let mut config = defaults(&rt);
+    config.filter = Filter::Address;
+    let mut packets = Packets::new(&rt);
+    packets.add(&rt, 1_000_000, 0, 5000, 0);
+    packets.add_reply(&rt, 4, 53, 1024);
+    packets.add_reply(&rt, 0, 99, 1024);
+    packets.add_reply(&rt, 0, 53, 1025);
+    let report = "records 4\nsent 2\nmarks 0\ndrop NoMapping 1\ndrop Filtered 1\n";
+    let plant = run_packets(&rt, config, &packets, report);
+    assert_eq!(rt; plant.sent().len(), SENT + 85);
 }

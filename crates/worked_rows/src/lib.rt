@@ -9,6 +9,8 @@ mod case;
 #[cfg(test)]
 mod configs;
 #[cfg(test)]
+mod connections;
+#[cfg(test)]
 mod driver;
 #[cfg(test)]
 mod expiry;

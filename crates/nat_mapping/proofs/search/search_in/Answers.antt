@@ -1,4 +1,4 @@
-use Rattle.std.proofs.Common.{◌≡◌, ◌<◌, List, get_or, length, sym, ap, ◌∙◌, arith}
+use Rattle.std.proofs.Common.{◌≡◌, ◌<◌, get_or, length, sym, ap, ◌∙◌, arith}
 use Rattle.nat_mapping.specs.declared.row.Row.{Row}
 use Rattle.nat_mapping.specs.Rows.{is_of, mapping_of}
 use Rattle.nat_mapping.proofs.Usages.{count_more, counted, counted_all, missed_more, peers_in, row_hit, row_missed, rows_in}
