@@ -74,11 +74,6 @@ const LATER: &str = "00000031 02 00000000000f425e";
 const LATER_SENT: &str = "00000059 01 00000000000f425e";
 
 // The closing of the connection's block, at its mapping's deadline.
-const UNANSWERED_CLOSED: Frame<'static> = Frame {
-    horizon: None,
-    blocks: &["000000000012ebc0 11 20010db8010000000000000000000000 38 c0000208 0400 05ff"],
-};
-
 const OPEN_CLOSED: Frame<'static> = Frame {
     horizon: None,
     blocks: &["000000000080c8ca 11 20010db8010000000000000000000000 38 c0000208 0400 05ff"],
@@ -89,16 +84,7 @@ const ENDED_CLOSED: Frame<'static> = Frame {
     blocks: &["000000000012ebde 11 20010db8010000000000000000000000 38 c0000208 0400 05ff"],
 };
 
-static CONNECTIONS: [Case<'static>; 4] = [
-    Case {
-        name: "240 s behind a SYN that nobody answered",
-        input: &[OPENS, "00000031 02 000000000012ebc0", ANSWER],
-        report: "records 2\nsent 1\nmarks 0\ndrop NoMapping 1\n",
-        sent: &[OPENS_SENT],
-        log_after: LogFile::Frames(&[FIRST_FRAME, UNANSWERED_CLOSED]),
-        drops: &[(DropCause::NoMapping, 1)],
-        ..RUN
-    },
+static CONNECTIONS: [Case<'static>; 3] = [
     Case {
         name: "7,440 s behind the answer that opened a connection",
         input: &[
