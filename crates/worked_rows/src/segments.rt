@@ -69,8 +69,11 @@ const RESET_SENT: &str = "60000000 0028 04 40
 
 // At 1,000,010 and 1,000,030 milliseconds, in and out.
 const SOON: &str = "00000031 02 00000000000f424a";
+
 const SOON_SENT: &str = "00000059 01 00000000000f424a";
+
 const LATER: &str = "00000031 02 00000000000f425e";
+
 const LATER_SENT: &str = "00000059 01 00000000000f425e";
 
 // The closing of the connection's block, at its mapping's deadline.
