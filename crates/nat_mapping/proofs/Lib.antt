@@ -1,4 +1,5 @@
 pub mod Apart
+pub mod Deadlines
 pub mod Kept
 pub mod Mapped
 pub mod Peers

@@ -1,6 +1,6 @@
 -- Mapping rows (RFC 4787 4), as a list in order of making.
 use Rattle.std.specs.Prelude.{◌≡◌, ◌<◌, ℕ, zero, suc, ◌+◌, ◌-◌, Bool, true, false, not, ◌&&◌, ◌==◌, nat_lt, List, [], ◌∷◌, ◌++◌, length, map, filter, find, sum_by}
-use Rattle.std.specs.Prelude.{Option, Some, None, option_map, if◌then◌else◌, slice_index}
+use Rattle.std.specs.Prelude.{All, ◌≤◌, ◌^◌, min, take, Option, Some, None, option_map, if◌then◌else◌, slice_index}
 use Rattle.std.specs.List.{list_any, position, range_with_len}
 use Rattle.std.specs.Vec.{vec_capacity, vec_len}
 use Rattle.aftr_base.specs.Value.{ip4_eq, place_eq, proto_eq, key_eq, subscriber_eq, is_within, place}
@@ -11,6 +11,7 @@ use Rattle.aftr_base.specs.declared.value.Proto.{Proto}
 use Rattle.aftr_base.specs.declared.value.Subscriber.{Subscriber}
 use Rattle.nat_mapping.specs.declared.row.Row.{Row}
 use Rattle.nat_mapping.specs.declared.row.Peer.{Peer}
+use Rattle.nat_mapping.specs.declared.search.Holding.{Holding}
 use Rattle.nat_mapping.specs.declared.table.RowId.{RowId}
 
 -- an inner key with its owner, its external place and the remote endpoints that it was used for
@@ -124,6 +125,15 @@ row_count s rows = sum_by (λ (r : Mapping). if subscriber_eq s r.owner then 1 e
 abbrev pub peer_count : Subscriber → List Mapping → ℕ
 peer_count s rows = sum_by (λ (r : Mapping). if subscriber_eq s r.owner then length r.peers else 0) rows
 
+-- both, where a count stands still at the greatest number of 64 bits
+abbrev pub holding_of : Subscriber → List Mapping → Holding
+holding_of s rows = record { rows = min (row_count s rows) (2 ^ 64 - 1); peers = min (peer_count s rows) (2 ^ 64 - 1) }
+
+-- the rows that a search went over: those before the row that it found, or all where it found none
+abbrev pub searched : Option RowId → List Mapping → List Mapping
+searched None rows = rows
+searched (Some id) rows = take id.0 rows
+
 -- ---- expiry
 
 -- peers go at their deadline, and rows without peers (RFC 4787 4.3)
@@ -135,3 +145,8 @@ is_used r = nat_lt 0 (length r.peers)
 
 abbrev pub expired : ℕ → List Mapping → List Mapping
 expired now rows = filter is_used (map (live_peers now) rows)
+
+-- a row has peers, none of which goes before this moment
+pub record LastsUntil (at : ℕ) (r : Mapping) : Type 0 where
+  pub some : 0 < length r.peers
+  pub each : All (λ (p : Peer). at ≤ p.deadline.0) r.peers

@@ -3,9 +3,11 @@
 
 mod ports;
 mod row;
+mod search;
 mod table;
 #[cfg(test)]
 mod tests;
 
 pub use row::{Peer, Row};
+pub use search::{Holding, Search};
 pub use table::{RowId, Table};

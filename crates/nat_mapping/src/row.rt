@@ -1,5 +1,6 @@
 //! One mapping and its remote endpoints.
-ghost use Rattle.std.specs.Prelude.{◌≡◌, ◌-◌, ◌||◌, ◌≤◌, ◌+◌, if◌then◌else◌, length, map, nat_lt, IsTrue};
+ghost use Rattle.std.specs.Prelude.{All, ◌≡◌, ◌-◌, ◌||◌, ◌≤◌, ◌+◌, if◌then◌else◌, length, map, nat_lt, IsTrue};
+ghost use Rattle.nat_mapping.specs.declared.row.Row.{Row};
 ghost use Rattle.std.specs.Vec.{vec_capacity, vec_len};
 ghost use Rattle.nat_mapping.specs.declared.row.Peer.{Peer};
 ghost use Rattle.nat_mapping.specs.Rows.{has_peer, is_at, is_used, is_of, live_peers, mapping_of, same_peer, with_peer};
@@ -110,4 +111,27 @@ pub(crate) fn number(proto: Proto) -> u8
         Proto::Udp => 17,
         Proto::Icmp => 1,
     }
+}
+
+// a moment before which none of the peers of these rows goes
+pub(crate) fn earliest_of(rows: &[Row]) -> Moment
+    ensures { All (λ (r : Row). All (λ (p : Peer). result.0 ≤ p.deadline.0) r.peers.items) rows.now }
+{
+    let mut earliest = Moment(u64::MAX);
+    for row in rows {
+        earliest = earliest_deadline(&row.peers, earliest);
+    }
+    earliest
+}
+
+// the least of this moment and of the deadlines
+fn earliest_deadline(peers: &[Peer], or: Moment) -> Moment
+    ensures before { result.0 ≤ or.0 }
+    ensures each { All (λ (p : Peer). result.0 ≤ p.deadline.0) peers.now }
+{
+    let mut earliest = or;
+    for peer in peers {
+        earliest = Moment(earliest.0.min(peer.deadline.0));
+    }
+    earliest
 }

@@ -1,11 +1,12 @@
 //! The rows of all mappings.
-ghost use Rattle.std.specs.Prelude.{◌≡◌, ◌≢◌, ◌<◌, ◌≤◌, ◌+◌, ◌-◌, ◌^◌, ◌||◌, ◌++◌, [], ◌∷◌, ℕ, Some, false, true, nat_lt, length, min, position, slice_get, IfNone, IfOk, IfSome, IsTrue, OnOk, OnErr};
+ghost use Rattle.std.specs.Prelude.{◌≡◌, ◌≢◌, ◌<◌, ◌≤◌, ◌+◌, ◌-◌, ◌^◌, ◌||◌, ◌++◌, [], ◌∷◌, ℕ, Some, false, true, nat_lt, length, min, position, take, slice_get, IfNone, IfOk, IfSome, IsTrue, OnOk, OnErr};
 ghost use Rattle.std.specs.List.{list_any};
 ghost use Rattle.nat_mapping.specs.declared.row.Row.{Row};
-ghost use Rattle.nat_mapping.specs.Rows.{KeepsSpares, are_apart, expired, has_key, has_peer_at, has_place, in_use, is_at, is_of, least_free, lies_in, mapping_of, peer_count, row_at, row_count, row_id, row_of, spare_at, touched_at};
+ghost use Rattle.nat_mapping.specs.Rows.{KeepsSpares, are_apart, expired, has_key, has_peer_at, has_place, holding_of, in_use, is_at, is_of, least_free, lies_in, mapping_of, peer_count, row_at, row_count, row_id, row_of, searched, spare_at, touched_at};
 
 use crate::ports;
-use crate::row::{Peer, Row, put_peer};
+use crate::row::{Peer, Row, earliest_of, put_peer};
+use crate::search::{self, Holding, Search};
 use aftr_base::{Ext, InnerKey, Ip4, Moment, NoMemory, Proto, Subscriber};
 use std::alloc::Global;
 use std::marker::Model;
@@ -20,18 +21,21 @@ pub struct RowId(pub usize);
 #[derive(Drop)]
 pub struct Table {
     rows: Vec<Row>,
+    // no peer goes before this moment
+    earliest: Moment,
     alloc: Global,
 }
 
 impl Model for Table {
-    ghost use Rattle.std.specs.Prelude.{◌≡◌, map, true};
-    ghost use Rattle.nat_mapping.specs.Rows.{Mappings, are_apart, mapping_of, mappings, room_of};
+    ghost use Rattle.std.specs.Prelude.{◌≡◌, All, map, true};
+    ghost use Rattle.nat_mapping.specs.Rows.{LastsUntil, Mappings, are_apart, mapping_of, mappings, room_of};
 
     ghost Value = { Mappings };
 
     ghost view = { λ t. mappings (map mapping_of t.rows.items) (map room_of t.rows.items) };
 
-    ghost invariant = { λ t. are_apart (map mapping_of t.rows.items) ≡ true };
+    ghost invariant = { λ t. (are_apart (map mapping_of t.rows.items) ≡ true)
+        × All (LastsUntil t.earliest.0) (map mapping_of t.rows.items) };
 }
 
 impl Table {
@@ -41,6 +45,7 @@ impl Table {
     {
         Table {
             rows: Vec::new(alloc),
+            earliest: Moment(u64::MAX),
             alloc,
         }
     }
@@ -53,6 +58,26 @@ impl Table {
         ensures apart { are_apart self.now.rows ≡ true }
     {
         out_at(&self.rows, key).map(RowId)
+    }
+
+    /// Looks for the row of an inner key, and counts on the way what an owner has. No row behind the key's is visited.
+    pub fn search(&self, key: &InnerKey, owner: Subscriber) -> Search
+        ensures found { result.row ≡ row_of key.now self.now.rows }
+        ensures before { result.before ≡ holding_of owner (searched result.row self.now.rows) }
+        ensures live { IfSome result.row (λ id. id.0 < length self.now.rows) }
+        ensures unused { IfNone result.row (has_key key.now self.now.rows ≡ false) }
+    {
+        search::search_in(&self.rows, key, owner)
+    }
+
+    /// What an owner has in all rows, where it has this much in those before that one. Only rows from that one on are
+    /// visited.
+    pub fn holding_from(&self, owner: Subscriber, from: RowId, before: Holding) -> Holding
+        requires within { from.0 ≤ length self.now.rows }
+        requires before { before ≡ holding_of owner (take from.0 self.now.rows) }
+        ensures { result ≡ holding_of owner self.now.rows }
+    {
+        search::holding_from(&self.rows, owner, from, before)
     }
 
     /// Where the row of an external place stands. None says that the place is unused.
@@ -114,6 +139,7 @@ impl Table {
     {
         let mut peers = Vec::new(self.alloc);
         peers.push(peer)?;
+        self.earliest = Moment(self.earliest.0.min(peer.deadline.0));
         let id = RowId(self.rows.len());
         self.rows.push(Row {
             key,
@@ -133,18 +159,24 @@ impl Table {
         ensures spare { spare_at id.0 self.old ≤ spare_at id.0 self.new + 1 }
         ensures others { (k : ℕ) → k ≢ id.0 → spare_at k self.new ≡ spare_at k self.old }
     {
+        self.earliest = Moment(self.earliest.0.min(peer.deadline.0));
         let row = &mut self.rows[id.0];
         put_peer(&mut row.peers, peer);
     }
 
     /// Lets the peers go whose deadline is not past `now`, and then the rows that have none left
-    /// (RFC 4787 section 4.3). The answer is whether a row went. It takes no memory.
+    /// (RFC 4787 section 4.3). The answer is whether a row went. It takes no memory, and visits no row where no deadline has
+    /// come.
     pub fn expire(&mut self, now: Moment) -> bool
         ensures rows { self.new.rows ≡ expired now.0 self.old.rows }
         ensures gone { result ≡ nat_lt (length self.new.rows) (length self.old.rows) }
     {
+        if now.0 < self.earliest.0 {
+            return false;
+        }
         let before = self.rows.len();
         self.rows.retain_mut(|row| row.expire(now));
+        self.earliest = earliest_of(&self.rows);
         self.rows.len() < before
     }
 
@@ -153,6 +185,7 @@ impl Table {
         ensures { self.new.rows ≡ [] }
     {
         self.rows.clear();
+        self.earliest = Moment(u64::MAX);
     }
 
     /// The least port from `first` to `last`, both included, that no row of the protocol has at the

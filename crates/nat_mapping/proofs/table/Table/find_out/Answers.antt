@@ -24,7 +24,7 @@ returns-clause-unused c =
     (λ none. none_passes (is_of c.args.key.now) c.args.self.now.rows (sym (at_is c) ∙ none))
 
 pub returns-clause-apart : goal.returns-clause-apart
-returns-clause-apart c = ap (λ (t : Mappings). are_apart t.rows) (sym c.self.view_is) ∙ c.self.invariant
+returns-clause-apart c = ap (λ (t : Mappings). are_apart t.rows) (sym c.self.view_is) ∙ c.self.invariant.0
 
 pub returns-clause-live : goal.returns-clause-live
 returns-clause-live c =

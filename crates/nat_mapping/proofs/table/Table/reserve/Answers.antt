@@ -1,9 +1,9 @@
-use Rattle.std.proofs.Common.{◌≡◌, ◌-◌, ap, ◌∙◌, List, map, set, arith, ℕ}
+use Rattle.std.proofs.Common.{All, ◌≡◌, ◌-◌, ap, sym, subst, ◌∙◌, List, map, set, arith, ℕ}
 use Rattle.std.specs.Prelude.{Result, Ok, Err, OnErr}
 use Rattle.std.specs.Vec.{vec_capacity, vec_len}
 use Rattle.nat_mapping.specs.declared.row.Row.{Row}
 use Rattle.nat_mapping.specs.declared.row.Peer.{Peer}
-use Rattle.nat_mapping.specs.Rows.{Mapping, Mappings, are_apart, mapping_of, mappings, room_of, spare_at}
+use Rattle.nat_mapping.specs.Rows.{LastsUntil, Mapping, Mappings, are_apart, mapping_of, mappings, room_of, spare_at}
 use Rattle.nat_mapping.proofs.Touched.{StandsAt, its_room, other_rooms, same_rooms, same_rows, stands}
 use Rattle.nat_mapping.proofs.table.Table.reserve.Goals as goal
 
@@ -30,7 +30,10 @@ kept_rows c =
     (failed c) (ap (λ (ps : List Peer). record (mapping_of c.index_mut-row.result.now) { peers = ps }) c.reserve.ensures.items)
 
 pub invariant_of-self : goal.invariant_of-self
-invariant_of-self c = ap are_apart (kept_rows c) ∙ c.self.invariant
+invariant_of-self c = (
+  ap are_apart (kept_rows c) ∙ c.self.invariant.0,
+  subst (All (LastsUntil c.self.inside.earliest.0)) (sym (kept_rows c)) c.self.invariant.1,
+)
 
 pub returns-in_err-reserve-clause-rows : goal.returns-in_err-reserve-clause-rows
 returns-in_err-reserve-clause-rows c = kept_rows c ∙ ap (λ (t : Mappings). t.rows) c.self.view_is
@@ -64,7 +67,10 @@ still_rows c =
     (done c) (ap (λ (ps : List Peer). record (mapping_of c.index_mut-row.result.now) { peers = ps }) c.reserve.ensures.items)
 
 pub invariant_of-self-2 : goal.invariant_of-self-2
-invariant_of-self-2 c = ap are_apart (still_rows c) ∙ c.self.invariant
+invariant_of-self-2 c = (
+  ap are_apart (still_rows c) ∙ c.self.invariant.0,
+  subst (All (LastsUntil c.self.inside.earliest.0)) (sym (still_rows c)) c.self.invariant.1,
+)
 
 pub returns-clause-rows : goal.returns-clause-rows
 returns-clause-rows c = still_rows c ∙ ap (λ (t : Mappings). t.rows) c.self.view_is

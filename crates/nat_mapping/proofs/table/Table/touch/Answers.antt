@@ -1,9 +1,10 @@
-use Rattle.std.proofs.Common.{◌≡◌, ap, sym, ◌∙◌, ◌||◌, List, map, set, arith, ℕ, subst, Bool}
+use Rattle.std.proofs.Common.{All, ◌≡◌, ap, sym, ◌∙◌, ◌||◌, List, map, set, arith, ℕ, subst, Bool}
 use Rattle.std.specs.Prelude.{nat_lt, IsTrue}
 use Rattle.nat_mapping.specs.declared.row.Row.{Row}
 use Rattle.nat_mapping.specs.declared.row.Peer.{Peer}
-use Rattle.nat_mapping.specs.Rows.{Mappings, are_apart, has_peer, has_peer_at, mapping_of, spare_at, touched_at}
+use Rattle.nat_mapping.specs.Rows.{LastsUntil, Mappings, are_apart, has_peer, has_peer_at, mapping_of, spare_at, touched_at}
 use Rattle.nat_mapping.proofs.Apart.{apart_touched}
+use Rattle.nat_mapping.proofs.Deadlines.{earlier, lasts_touched}
 use Rattle.nat_mapping.proofs.Touched.{its_room, other_rooms, peer_there, room_there, stands, touched_row}
 use Rattle.nat_mapping.proofs.table.Table.touch.Goals as goal
 
@@ -18,7 +19,7 @@ put_peer-requires c =
     let P : Bool → ℕ → Type 0 = λ b n. IsTrue (b || nat_lt 0 n) in
     subst (λ n. P (has_peer c.args.peer there.peers.items) n) room (subst (λ b. P b (spare_at c.args.id.0 c.args.self.now)) peer c.requires.room)
 
-changed : (c : goal.After-self-1)
+changed : (c : goal.After-self-2-1)
     → map mapping_of (set c.self.inside.rows.items c.args.id.0 (record c.index_mut-row.result.now { peers = c.put_peer.new.peers }))
     ≡ touched_at c.args.id.0 c.args.peer (map mapping_of c.self.inside.rows.items)
 changed c =
@@ -31,7 +32,12 @@ changed c =
 
 pub invariant_of-self : goal.invariant_of-self
 invariant_of-self c =
-    ap are_apart (changed c) ∙ apart_touched c.args.id.0 c.args.peer (map mapping_of c.self.inside.rows.items) ∙ c.self.invariant
+    let rows = map mapping_of c.self.inside.rows.items in
+    let e = c.min.result in
+    let before = earlier c.self.inside.earliest.0 e rows (omega (arith, c.min.ensures)) c.self.invariant.1 in (
+      ap are_apart (changed c) ∙ apart_touched c.args.id.0 c.args.peer rows ∙ c.self.invariant.0,
+      subst (All (LastsUntil e)) (sym (changed c)) (lasts_touched e c.args.id.0 c.args.peer rows (omega (arith, c.min.ensures)) before),
+    )
 
 pub returns-clause-rows : goal.returns-clause-rows
 returns-clause-rows c = changed c ∙ ap (λ (t : Mappings). touched_at c.args.id.0 c.args.peer t.rows) c.self.view_is

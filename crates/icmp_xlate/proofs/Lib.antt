@@ -1,0 +1,9 @@
+pub mod Words
+pub mod Headers
+pub mod Fronts
+pub mod Quotes
+pub mod Messages
+pub mod Packets
+pub mod MadeErrors
+pub mod Sums
+pub mod Reading

@@ -1,0 +1,3 @@
+-- Definitions of ICMP errors under translation.
+pub mod Translated
+pub mod Made

@@ -1,0 +1,3 @@
+-- Definitions of ICMP messages.
+pub mod Grammar
+pub mod Quoted
