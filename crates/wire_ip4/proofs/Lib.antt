@@ -3,3 +3,4 @@ pub mod Pieces
 pub mod HeaderRead
 pub mod GrammarLaws
 pub mod SumLaws
+pub mod ViewHeaders

@@ -6,12 +6,12 @@ use Rattle.std.specs.List.{AllByRecursion}
 use Rattle.std.proofs.lemmas.Bool.{ne_eqb}
 use Rattle.std.proofs.lemmas.List.Sums.{sum_by-append}
 use Rattle.aftr_base.specs.Bytes.{be16, be32}
-use Rattle.aftr_base.specs.Checksum.{sum16, words_of, ones_sum}
+use Rattle.aftr_base.specs.Checksum.{address_words, sum16, words_of, ones_sum}
 use Rattle.aftr_base.specs.declared.value.Ip4.{Ip4}
 use Rattle.aftr_base.proofs.ChecksumLaws.{adjust_is_congruent}
 use Rattle.wire_ip4.specs.declared.fields.Ip4Fields.{Ip4Fields}
 use Rattle.wire_ip4.specs.Grammar.{Header, IsHeader, AreFields, header_len, header_bytes, bare, header_with}
-use Rattle.wire_ip4.specs.Forwarded.{forwarded, changing_words, ttl_word, with_address}
+use Rattle.wire_ip4.specs.Forwarded.{address_on, changing_words, forwarded, hairpinned, readdressed, ttl_word, with_address}
 use Rattle.wire_ip4.proofs.HeaderRead.{word_of, word_read}
 use Rattle.wire_ip4.proofs.Pieces.{nothing_fits}
 
@@ -181,3 +181,59 @@ sound_forwarded source addr h is lt sound =
     along (others h + kept source h) (h.sum + sum old) (h'.sum + sum new)
     (sum (words_of (header_bytes h))) (sum (words_of (header_bytes h')))
     (omega (arith, before)) (omega (arith, after, kept_along source addr h)) same (omega (arith, after)) sound
+
+-- ---- a checksum that is updated for an address alone
+
+is_readdressed : (source : Bool) (addr : Ip4) (h : Header) → IsHeader h → addr.0 < 2 ^ 32 → IsHeader (readdressed source addr h)
+is_readdressed source addr h is lt =
+    let addresses = fits_moved source addr h is lt in
+    record {
+      fields = record {
+        tos = is.fields.tos;
+        total = is.fields.total;
+        id = is.fields.id;
+        offset = is.fields.offset;
+        ttl = is.fields.ttl;
+        proto = is.fields.proto;
+        src = addresses.0;
+        dst = addresses.1;
+      };
+      sum = fits_adjusted _ _;
+      options = is.options;
+      words = is.words;
+      most = is.most;
+    }
+
+abbrev word_sum : Ip4 → ℕ
+word_sum a = sum (address_words a.0)
+
+-- what the sum becomes
+readdressed_sum : (source : Bool) (addr : Ip4) (h : Header) → IsHeader h → addr.0 < 2 ^ 32
+    → (let h' = readdressed source addr h in sum (words_of (header_bytes h')) + word_sum (address_on source h) + h.sum
+    ≡ sum (words_of (header_bytes h)) + word_sum addr + h'.sum)
+readdressed_sum true addr h is lt =
+    omega (arith, header_sum h is, header_sum (readdressed true addr h) (is_readdressed true addr h is lt))
+readdressed_sum false addr h is lt =
+    omega (arith, header_sum h is, header_sum (readdressed false addr h) (is_readdressed false addr h is lt))
+
+some_sum : (h : Header) → IsHeader h → 1 ≤ sum (words_of (header_bytes h))
+some_sum h is = omega (arith, header_sum h is)
+
+replaced_sum : (before after old new was is : ℕ) → after + old + was ≡ before + new + is → (is + new) % 65535 ≡ (was + old) % 65535
+    → 1 ≤ after → ones_sum before ≡ 65535 → ones_sum after ≡ 65535
+replaced_sum before after old new was is same congruent some full =
+    all_ones after some (let none = ones_all before full in omega (arith, same, congruent, none))
+
+pub sound_readdressed : (source : Bool) (addr : Ip4) (h : Header) → IsHeader h → addr.0 < 2 ^ 32
+    → sum16 (header_bytes h) ≡ 65535 → sum16 (header_bytes (readdressed source addr h)) ≡ 65535
+sound_readdressed source addr h is lt sound =
+    let h' = readdressed source addr h in
+    let words : AllByRecursion (λ m. m ≤ 65535) (address_words addr.0) = (omega arith, (omega arith, tt)) in
+    let congruent = adjust_is_congruent h.sum (address_words (address_on source h).0) (address_words addr.0) words refl in
+    replaced_sum (sum (words_of (header_bytes h))) (sum (words_of (header_bytes h'))) (word_sum (address_on source h)) (word_sum addr)
+    h.sum h'.sum (readdressed_sum source addr h is lt) congruent (some_sum h' (is_readdressed source addr h is lt)) sound
+
+pub sound_hairpinned : (src dst : Ip4) (h : Header) → IsHeader h → src.0 < 2 ^ 32 → dst.0 < 2 ^ 32
+    → sum16 (header_bytes h) ≡ 65535 → sum16 (header_bytes (hairpinned src dst h)) ≡ 65535
+sound_hairpinned src dst h is from to sound =
+    sound_readdressed false dst (forwarded true src h) (is_forwarded true src h is from) to (sound_forwarded true src h is from sound)

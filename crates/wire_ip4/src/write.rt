@@ -2,7 +2,7 @@
 ghost use Rattle.std.specs.Prelude.{◌≡◌, ◌+◌, ◌<◌, ◌≤◌, ◌++◌, [], List, ℕ, Ok, length};
 ghost use Rattle.aftr_base.specs.Checksum.{sum16 as sum_of};
 ghost use Rattle.wire_ip4.specs.Grammar.{AreFields, bare, bit_of, header_bytes, header_with, packet_of};
-ghost use Rattle.wire_ip4.specs.Forwarded.{changing_words, forwarded, one_hop_on, with_address};
+ghost use Rattle.wire_ip4.specs.Forwarded.{changing_words, forwarded, hairpinned, one_hop_on, with_address};
 
 use crate::fields::Ip4Fields;
 use crate::view::Ip4View;
@@ -37,7 +37,34 @@ impl<'a> Ip4View<'a> {
         let old = self.fields();
         let new = moved(&old, source, addr);
         let sum = adjust(self.sum(), &changing(&old, source), &changing(&new, source));
-        *out = ArrayVec::from(header_octets(new, self.reserved(), sum));
+        self.write_with(new, sum, out);
+    }
+
+    /// Writes the header of this packet as it turns back to the side that it came from (hairpinning, RFC 4787 section 6): from
+    /// the address `src` to the address `dst`, its TTL one lower, its checksum updated for the one address and then for the
+    /// other, all else as it was. It is for a header without options whose TTL is at least 1, and `out` is empty.
+    pub fn write_hairpinned(&self, src: Ip4, dst: Ip4, out: &mut ArrayVec<u8, 20>)
+        requires plain { self.now.0.options ≡ [] }
+        requires alive { 1 ≤ self.now.0.fields.ttl }
+        requires empty { out.old.items ≡ [] }
+        ensures bytes { out.new.items ≡ header_bytes (hairpinned src dst self.now.0) }
+        ensures sound { sum_of (header_bytes self.now.0) ≡ 65535 → sum_of out.new.items ≡ 65535 }
+    {
+        let old = self.fields();
+        let outward = moved(&old, true, src);
+        let sum = adjust(self.sum(), &changing(&old, true), &changing(&outward, true));
+        let sum = adjust(sum, &old.dst.words(), &dst.words());
+        self.write_with(Ip4Fields { dst, ..outward }, sum, out);
+    }
+
+    // writes a header with these fields and this checksum, and the reserved flag bit of this packet
+    fn write_with(&self, fields: Ip4Fields, sum: u16, out: &mut ArrayVec<u8, 20>)
+        requires empty { out.old.items ≡ [] }
+        requires offset { fields.offset < 8192 }
+        ensures { out.new.items
+            ≡ header_bytes (record (bare fields) { reserved = self.now.0.reserved; sum = sum }) }
+    {
+        *out = ArrayVec::from(header_octets(fields, self.reserved(), sum));
     }
 }
 

@@ -1,9 +1,8 @@
-use Rattle.std.proofs.Common.{rules, ap, sym, subst, ◌∙◌, refl, arith}
-use Rattle.aftr_base.specs.Bytes.{IsBytes}
+use Rattle.std.proofs.Common.{rules, ap, subst, ◌∙◌, arith}
 use Rattle.aftr_base.specs.Checksum.{sum16}
-use Rattle.wire_ip4.specs.Grammar.{IsHeader, AreFields}
-use Rattle.wire_ip4.proofs.Pieces.{nothing_fits}
+use Rattle.wire_ip4.specs.Grammar.{AreFields}
 use Rattle.wire_ip4.proofs.SumLaws.{sound_forwarded}
+use Rattle.wire_ip4.proofs.ViewHeaders.{plain_header}
 use Rattle.wire_ip4.proofs.view.Ip4View.write_forwarded.Goals as goal
 
 pub returns-clause-bytes : goal.returns-clause-bytes
@@ -22,11 +21,6 @@ returns-clause-sound c = λ sound.
       src = omega (arith, c.fields-old.type_inv);
       dst = omega (arith, c.fields-old.type_inv);
     } in
-    let is : IsHeader h = record {
-      fields = subst AreFields c.fields-old.ensures.value fields;
-      sum = omega (arith, c.sum.ensures, c.sum.type_inv);
-      options = subst IsBytes (sym c.requires.plain) nothing_fits;
-      words = rw c.requires.plain refl;
-      most = rw c.requires.plain (omega arith);
-    } in
+    let is = plain_header h (subst AreFields c.fields-old.ensures.value fields) (omega (arith, c.sum.ensures, c.sum.type_inv))
+      c.requires.plain in
     ap sum16 (returns-clause-bytes c) ∙ sound_forwarded c.args.source c.args.addr h is (omega arith) sound
