@@ -13,7 +13,8 @@ use Rattle.lease_log.specs.Log.{Log, log_of as log_in}
 use Rattle.xlate_core.specs.Laws.{IsAhead}
 use Rattle.xlate_core.specs.declared.step_out.Item.{Item}
 use Rattle.xlate_core.proofs.Holders.{holders, holds as holds_it}
-use Rattle.xlate_core.proofs.PacketSources.{IsNamed as IsHolder, source_of}
+use Rattle.xlate_core.proofs.PacketSources.{IsNamed as IsHolder}
+use Rattle.xlate_core.specs.Sources.{source_of}
 use Rattle.trace_query.specs.Names.{holds, names_of}
 use Rattle.egress_gate.specs.Logged.{Tells}
 use Rattle.egress_gate.specs.Senders.{IsNamed}
@@ -50,7 +51,7 @@ named_by t None addr port at holder ahead = tt
 named_by t (Some owner) addr port at holder ahead = (names_same t addr port at ahead ∙ holder, ahead)
 
 pub named_item : (t : Told) (i : Item) → IsHolder t.leases i → IsAhead t.horizon.0 i → IsNamed t i
-named_item t i holder ahead = named_by t i.owner (source_of i.bytes).addr (source_of i.bytes).port i.at.0 holder ahead
+named_item t i holder ahead = named_by t i.owner (source_of i).addr (source_of i).port i.at.0 holder ahead
 
 -- ---- what a file tells is one thing
 

@@ -13,7 +13,8 @@ use Rattle.trace_query.specs.Names.{names_of}
 use Rattle.link_records.specs.Frames.{number_of}
 use Rattle.egress_gate.specs.Answered.{IsWholeIn}
 use Rattle.egress_gate.specs.Output.{item_bytes, output}
-use Rattle.egress_gate.specs.Senders.{IsNamed, port_of, source_of}
+use Rattle.egress_gate.specs.Senders.{IsNamed}
+use Rattle.xlate_core.specs.Sources.{source_of}
 
 some_record : (i : Item) → 1 ≤ length (item_bytes i)
 some_record i =
@@ -58,8 +59,8 @@ front_item past bytes front rest count k i is whole item =
 -- ---- so it is named
 
 pub named_one : (told : Told) (i j : Item) (owner : Subscriber) → i ≡ j → IsNamed told j → i.owner ≡ Some owner
-    → (names_of told (source_of i) (port_of i) i.at.0 ≡ owner ∷ []) × (i.at.0 ≤ told.horizon.0)
+    → (names_of told (source_of i).addr (source_of i).port i.at.0 ≡ owner ∷ []) × (i.at.0 ≤ told.horizon.0)
 named_one told i j owner same named is =
     subst (λ (o : Option Subscriber). IfSome o (λ (s : Subscriber).
-    (names_of told (source_of i) (port_of i) i.at.0 ≡ s ∷ []) × (i.at.0 ≤ told.horizon.0))) is
+    (names_of told (source_of i).addr (source_of i).port i.at.0 ≡ s ∷ []) × (i.at.0 ≤ told.horizon.0))) is
     (subst (IsNamed told) (sym same) named)

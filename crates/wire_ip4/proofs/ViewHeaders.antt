@@ -1,5 +1,5 @@
 -- The header that a view has is one that bytes can spell, where it has no options.
-use Rattle.std.proofs.Common.{◌≡◌, ◌<◌, ℕ, List, [], refl, subst, sym, arith}
+use Rattle.std.proofs.Common.{◌≡◌, ◌<◌, [], refl, subst, sym, arith}
 use Rattle.aftr_base.specs.Bytes.{IsBytes}
 use Rattle.wire_ip4.specs.Grammar.{AreFields, Header, IsHeader}
 use Rattle.wire_ip4.proofs.Pieces.{nothing_fits}

@@ -1,7 +1,7 @@
 -- A datagram in its packet, and the same after it was written anew.
 use Rattle.std.proofs.Common.{◌≡◌, ℕ, ◌+◌, ◌-◌, ◌≤◌, Bool, true, false, not, ◌==◌, List, [], ◌∷◌, ◌++◌, map, length, take, drop, Ok, refl}
 use Rattle.std.proofs.Common.{sym, ap, ◌∙◌, length-append, arith}
-use Rattle.std.proofs.lemmas.List.{append-nil, length-drop, drop_all, take_all}
+use Rattle.std.proofs.lemmas.List.{append-nil, length-drop, length-take, drop_all, take_all}
 use Rattle.std.proofs.Math.Seq.{drop-append_seam, take-append_seam}
 use Rattle.std.proofs.lemmas.Bool.{eqb-true}
 use borrow.Rule.Slice.PartMut.{put_mid}
@@ -45,6 +45,16 @@ put_behind n xs ys le =
     let none : drop (length xs - n) (drop n xs) ≡ [] = drop_all (length xs - n) (drop n xs) (omega (arith, length-drop n xs)) in
     rw (none, append-nil) refl
 
+pub behind_taken : (n : ℕ) (xs ys : List ℕ) → n ≤ length xs → drop n (take n xs ++ ys) ≡ ys
+behind_taken n xs ys le =
+    let len : n ≡ length (take n xs) = omega (arith, length-take n xs, le) in
+    ap (λ (k : ℕ). drop k (take n xs ++ ys)) len ∙ drop-append_seam (take n xs) ys
+
+pub front_taken : (n : ℕ) (xs ys : List ℕ) → n ≤ length xs → take n (take n xs ++ ys) ≡ take n xs
+front_taken n xs ys le =
+    let len : n ≡ length (take n xs) = omega (arith, length-take n xs, le) in
+    ap (λ (k : ℕ). take k (take n xs ++ ys)) len ∙ take-append_seam (take n xs) ys
+
 -- a vector whose elements were all written
 pub all_written : (n : ℕ) (xs ys : List ℕ) → n ≡ length xs → take n (xs ++ drop (length xs) ys) ≡ xs
 all_written n xs ys len = ap (λ (k : ℕ). take k (xs ++ drop (length xs) ys)) len ∙ take-append_seam xs (drop (length xs) ys)
@@ -70,6 +80,12 @@ pub whole_len : (h : Header) (payload bytes : List ℕ) → h.options ≡ [] →
     → length bytes ≡ 20 + length payload
 whole_len h payload bytes bare so =
     ap (λ (l : List ℕ). length l) so ∙ length-append (header_bytes h) payload ∙ ap (λ (n : ℕ). n + length payload) (head_len h bare)
+
+-- the header and the payload that the vector was made of
+pub made_of : (h : Header) (payload made joined header part : List ℕ) → made ≡ joined → joined ≡ header ++ part → header ≡ header_bytes h
+    → part ≡ payload
+    → made ≡ header_bytes h ++ payload
+made_of h payload made joined header part a b c d = a ∙ b ∙ ap (λ (l : List ℕ). l ++ part) c ∙ ap (λ (l : List ℕ). header_bytes h ++ l) d
 
 -- what the code reads behind the header is the datagram's transport
 pub transport_there : (h : Header) (payload bytes : List ℕ) (proto : Proto) → h.options ≡ [] → bytes ≡ header_bytes h ++ payload

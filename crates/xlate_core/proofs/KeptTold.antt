@@ -21,10 +21,12 @@ use Rattle.xlate_core.specs.Expiry.{Closed, at_moment, closing_limit, with_idle_
 use Rattle.xlate_core.specs.State.{State, Step}
 use Rattle.xlate_core.specs.Step.{step, treatment}
 use Rattle.xlate_core.specs.Run.{run, start}
+use Rattle.xlate_core.specs.declared.grant.Grant.{Grant}
+use Rattle.xlate_core.specs.Outbound.{Outbound}
 use Rattle.xlate_core.specs.Valid.{IsStart, KeepsTold}
 use Rattle.xlate_core.proofs.Clock.{by_moment, floor_stays, plans_stay}
 use Rattle.xlate_core.proofs.LogTells.{run_horizon}
-use Rattle.xlate_core.proofs.Treatments.{by_way}
+use Rattle.xlate_core.proofs.Treatments.{IsOut, by_way}
 use Rattle.xlate_core.proofs.ValidExpiry.{Idle, Lasts, MayEnd, idle_end, idle_open}
 use Rattle.xlate_core.proofs.ValidStates.{grant_out, moment_accepted, run_floor, step_accepted, step_floor, treated_beside}
 use Rattle.xlate_core.proofs.WirePlaces.{IsNew, grant_new}
@@ -98,12 +100,15 @@ first_opened {told = told} {end = end} more later h = record {
 first_treated : {told : List LeaseRow} (s : State) (bytes : List ℕ) (kind : EventKind) → is_accepted s.config ≡ true
     → StandFirst told s.floor s.leases → StandFirst told s.floor (treatment s kind bytes).state.leases
 first_treated {told = told} s bytes kind ok h =
+    let more : (got : Outbound) (g : Grant) → IsOut s bytes got g → StandFirst told s.floor (s.leases ++ option_to_list g.lease) =
+    λ got g by. first_opened (option_to_list g.lease) (new_later s.floor s.clock g.lease by.settled (grant_new (grant_out ok by))) h in
     by_way (λ (t : Step). StandFirst told s.floor t.state.leases) s bytes kind (record {
       rests = h;
       drops = λ cause. h;
       delivers = λ d r by. h;
-      forwards = λ got g by.
-          first_opened (option_to_list g.lease) (new_later s.floor s.clock g.lease by.settled (grant_new (grant_out ok by))) h;
+      forwards = λ got g by abroad. more got g by;
+      turns = λ got g row by turned. more got g by;
+      holds = λ got g cause by. more got g by;
     })
 
 -- ---- a step and a run

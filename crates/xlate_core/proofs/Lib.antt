@@ -1,3 +1,4 @@
+pub mod Arriving
 pub mod Attempts
 pub mod Clock
 pub mod Closings
@@ -12,7 +13,6 @@ pub mod LogNumbers
 pub mod LogTells
 pub mod Middles
 pub mod Openings
-pub mod Owns
 pub mod PacketSources
 pub mod Packets
 pub mod Passed

@@ -48,7 +48,25 @@ opens_treated s bytes kind ok = by_way (Opens s) s bytes kind (record {
     leases = sym (append-nil s.leases);
     new = tt;
   };
-  forwards = λ got g by. record {
+  forwards = λ got g by abroad. record {
+    config = refl;
+    clock = refl;
+    closings = refl;
+    lease = g.lease;
+    openings = refl;
+    leases = refl;
+    new = grant_new (grant_out ok by);
+  };
+  turns = λ got g row by turned. record {
+    config = refl;
+    clock = refl;
+    closings = refl;
+    lease = g.lease;
+    openings = refl;
+    leases = refl;
+    new = grant_new (grant_out ok by);
+  };
+  holds = λ got g cause by. record {
     config = refl;
     clock = refl;
     closings = refl;

@@ -1,7 +1,6 @@
 -- Each packet that goes out has its source in an open lease of its subscriber, which all later leases name, and no other.
-use Rattle.std.proofs.Common.{◌≡◌, ℕ, ◌≤◌, true, List, [], ◌∷◌, Option, Some, None, IfSome, All, refl, sym, ◌∙◌, subst, arith, ap₂}
+use Rattle.std.proofs.Common.{◌≡◌, ℕ, ◌^◌, ◌<◌, ◌≤◌, true, List, [], ◌∷◌, ◌++◌, length, Option, Some, None, IfSome, All, option_to_list, refl, sym, ◌∙◌, subst, arith, ap₂}
 use Rattle.std.proofs.lemmas.List.Elements.{All-weaker, All-nil, All-cons, All-append}
-use Rattle.aftr_base.specs.Bytes.{u16_at, u32_at}
 use Rattle.aftr_base.specs.Value.{ip4, place}
 use Rattle.aftr_base.specs.declared.value.Ext.{Ext}
 use Rattle.aftr_base.specs.declared.value.Subscriber.{Subscriber}
@@ -14,10 +13,13 @@ use Rattle.cfg_text.specs.declared.config.Config.{Config}
 use Rattle.xlate_core.specs.declared.grant.Grant.{Grant}
 use Rattle.xlate_core.specs.declared.step_out.Item.{Item}
 use Rattle.xlate_core.specs.State.{State, Step}
-use Rattle.xlate_core.specs.Datagram.{datagram_bytes, translated}
+use Rattle.softwire.specs.Tunnel.{tunnel_fields}
+use Rattle.nat_mapping.specs.Rows.{Mapping}
+use Rattle.xlate_core.specs.Sources.{source_of}
+use Rattle.xlate_core.specs.Datagram.{datagram_bytes, hairpinned, inner_place, translated}
 use Rattle.xlate_core.specs.Outbound.{Outbound}
 use Rattle.xlate_core.specs.Expiry.{at_moment}
-use Rattle.xlate_core.specs.Step.{step, treatment, sent_out, item, delivered_bytes}
+use Rattle.xlate_core.specs.Step.{step, treatment, sent_out, sent_back, held_back, item, delivered_bytes, hairpin_bytes}
 use Rattle.xlate_core.specs.Run.{run, start}
 use Rattle.xlate_core.specs.Valid.{AreDisjoint, IsConsistent, IsStart}
 use Rattle.xlate_core.proofs.Disjoint.{disjoint_run}
@@ -26,30 +28,48 @@ use Rattle.xlate_core.proofs.LeasesOver.{AreLater, later_run}
 use Rattle.xlate_core.proofs.Reached.{IsReached, reached_moment, reached_start, reached_step}
 use Rattle.xlate_core.proofs.ValidForwards.{place_granted}
 use Rattle.xlate_core.proofs.ValidStates.{grant_out}
-use Rattle.xlate_core.proofs.WirePlaces.{address_out, place_fits, port_out, wire_grant}
+use Rattle.xlate_core.proofs.WirePlaces.{address_back, address_out, behind_address, behind_port, place_fits, port_back, port_out, wire_grant}
 use Rattle.xlate_core.proofs.Packets.{sent_outward}
 use Rattle.xlate_core.proofs.Treatments.{IsOut, by_way}
 use Rattle.xlate_core.proofs.ValidRows.{lies_at}
 
 -- ---- a packet's source
 
--- where an IPv4 packet without options comes from
-abbrev pub source_of : List ℕ → Ext
-source_of bytes = place (ip4 (u32_at 12 bytes)) (u16_at 20 bytes)
-
 -- a subscriber's packet has its source in an open lease of the subscriber
 abbrev pub IsFromLease : List LeaseRow → Item → Type 0
-IsFromLease leases i = IfSome i.owner (λ (owner : Subscriber). lies_at leases owner (source_of i.bytes) ≡ true)
+IsFromLease leases i = IfSome i.owner (λ (owner : Subscriber). lies_at leases owner (source_of i) ≡ true)
 
-source_out : {s : State} {bytes : List ℕ} {got : Outbound} {g : Grant} → IsReached s → IsOut s bytes got g
-    → lies_at (sent_out s got g).state.leases got.who.owner (source_of (datagram_bytes (translated true g.place got.datagram))) ≡ true
-source_out {s = s} {got = got} {g = g} h by =
-    let after = (sent_out s got g).state.leases in
+-- the place of a grant is in an open lease of the sender then, and fits into the headers
+placed : {s : State} {bytes : List ℕ} {got : Outbound} {g : Grant} → IsReached s → IsOut s bytes got g
+    → (let after = s.leases ++ option_to_list g.lease in
+    (lies_at after got.who.owner g.place ≡ true) × (g.place.addr.0 < 2 ^ 32) × (g.place.port < 2 ^ 16))
+placed {s = s} {got = got} {g = g} h by =
     let grant = grant_out h.accepted by in
     let there = place_granted grant h.consistent in
-    let fits = place_fits after got.who.owner g.place (wire_grant grant h.wire) there in
-    let addr = address_out g.place got.datagram fits.0 in
-    let port = port_out g.place got.datagram (sent_outward by).whole fits.1 in
+    let fits = place_fits (s.leases ++ option_to_list g.lease) got.who.owner g.place (wire_grant grant h.wire) there in
+    (there, fits.0, fits.1)
+
+source_out : {s : State} {bytes : List ℕ} {got : Outbound} {g : Grant} → IsReached s → IsOut s bytes got g
+    → lies_at (s.leases ++ option_to_list g.lease) got.who.owner
+    (source_of (item s PublicSide (Some got.who.owner) (datagram_bytes (translated true g.place got.datagram)))) ≡ true
+source_out {s = s} {got = got} {g = g} h by =
+    let after = s.leases ++ option_to_list g.lease in
+    let (there, low, high) = placed h by in
+    let addr = address_out g.place got.datagram low in
+    let port = port_out g.place got.datagram (sent_outward by).whole high in
+    ap₂ (λ (a p : ℕ). lies_at after got.who.owner (place (ip4 a) p)) addr port ∙ there
+
+source_back : {s : State} {bytes : List ℕ} {got : Outbound} {g : Grant} (row : Mapping) → IsReached s → IsOut s bytes got g
+    → lies_at (s.leases ++ option_to_list g.lease) got.who.owner
+    (source_of (item s SoftwireSide (Some got.who.owner) (hairpin_bytes s got g row))) ≡ true
+source_back {s = s} {got = got} {g = g} row h by =
+    let after = s.leases ++ option_to_list g.lease in
+    let d = got.datagram in
+    let inner = datagram_bytes (hairpinned g.place (inner_place row.key) d) in
+    let f = tunnel_fields s.config.aftr row.key.softwire d.header.fields.tos 4 (length inner) in
+    let (there, low, high) = placed h by in
+    let addr = behind_address f inner ∙ address_back g.place (inner_place row.key) d low in
+    let port = behind_port f inner ∙ port_back g.place (inner_place row.key) d (sent_outward by).whole high in
     ap₂ (λ (a p : ℕ). lies_at after got.who.owner (place (ip4 a) p)) addr port ∙ there
 
 one_item : (P : Item → Type 0) (i : Item) → P i → All P (i ∷ [])
@@ -62,9 +82,13 @@ source_treated s bytes kind h = by_way (λ (t : Step). All (IsFromLease t.state.
   rests = All-nil (IsFromLease s.leases);
   drops = λ cause. All-nil (IsFromLease s.leases);
   delivers = λ d row by. one_item (IsFromLease s.leases) (item s SoftwireSide None (delivered_bytes s d row)) tt;
-  forwards = λ got g by.
+  forwards = λ got g by abroad.
       let bytes_out = datagram_bytes (translated true g.place got.datagram) in
       one_item (IsFromLease (sent_out s got g).state.leases) (item s PublicSide (Some got.who.owner) bytes_out) (source_out h by);
+  turns = λ got g row by turned.
+      let sent = item s SoftwireSide (Some got.who.owner) (hairpin_bytes s got g row) in
+      one_item (IsFromLease (sent_back s got g row).state.leases) sent (source_back row h by);
+  holds = λ got g cause by. All-nil (IsFromLease (held_back s got g cause).state.leases);
 })
 
 pub source_step : (s : State) (e : Event) → IsReached s → All (IsFromLease (step s e).state.leases) (step s e).items
@@ -80,7 +104,9 @@ now_treated s bytes kind = by_way (λ (t : Step). All (IsAt t.state.clock) t.ite
   rests = All-nil (IsAt s.clock);
   drops = λ cause. All-nil (IsAt s.clock);
   delivers = λ d row by. one_item (IsAt s.clock) _ refl;
-  forwards = λ got g by. one_item (IsAt s.clock) _ refl;
+  forwards = λ got g by abroad. one_item (IsAt s.clock) _ refl;
+  turns = λ got g row by turned. one_item (IsAt s.clock) _ refl;
+  holds = λ got g cause by. All-nil (IsAt s.clock);
 })
 
 pub now_step : (s : State) (e : Event) → All (IsAt (step s e).state.clock) (step s e).items
@@ -93,7 +119,7 @@ IsHeldAt leases at e o = IfSome o (λ (owner : Subscriber). IsHeld leases owner 
 
 pub record IsKept (s : State) (i : Item) : Type 0 where
   pub sent : i.at.0 ≤ s.clock
-  pub held : IsHeldAt s.leases i.at.0 (source_of i.bytes) i.owner
+  pub held : IsHeldAt s.leases i.at.0 (source_of i) i.owner
 
 later_by : (s t : State) (at : ℕ) (e : Ext) (o : Option Subscriber) → AreLater s t → at ≤ s.clock → IsHeldAt s.leases at e o
     → IsHeldAt t.leases at e o
@@ -103,7 +129,7 @@ later_by s t at e (Some owner) later le h = held_later owner e.addr e.port at la
 pub kept_later : {s t : State} {i : Item} → AreLater s t → IsKept s i → IsKept t i
 kept_later {s = s} {t = t} {i = i} later h = record {
   sent = omega (arith, h.sent, later.clock);
-  held = later_by s t i.at.0 (source_of i.bytes) i.owner later h.sent h.held;
+  held = later_by s t i.at.0 (source_of i) i.owner later h.sent h.held;
 }
 
 now_by : (s : State) (at : ℕ) (e : Ext) (o : Option Subscriber) → at ≡ s.clock → IsConsistent s
@@ -113,7 +139,7 @@ now_by s at e (Some owner) now v h =
     subst (λ (n : ℕ). IsHeld s.leases owner e.addr e.port n) (sym now) (held_now s owner e v h)
 
 pub kept_now : (s : State) (i : Item) → IsConsistent s → IsAt s.clock i → IsFromLease s.leases i → IsKept s i
-kept_now s i v now h = record { sent = omega (arith, now); held = now_by s i.at.0 (source_of i.bytes) i.owner now v h }
+kept_now s i v now h = record { sent = omega (arith, now); held = now_by s i.at.0 (source_of i) i.owner now v h }
 
 pub kept_step : (s : State) (e : Event) → IsReached s → All (IsKept (step s e).state) (step s e).items
 kept_step s e h =
@@ -136,7 +162,7 @@ kept_run s (e ∷ es) h =
 
 abbrev pub IsNamed : List LeaseRow → Item → Type 0
 IsNamed leases i =
-    IfSome i.owner (λ (owner : Subscriber). holders leases (source_of i.bytes).addr (source_of i.bytes).port i.at.0 ≡ owner ∷ [])
+    IfSome i.owner (λ (owner : Subscriber). holders leases (source_of i).addr (source_of i).port i.at.0 ≡ owner ∷ [])
 
 named_by : (leases : List LeaseRow) (at : ℕ) (e : Ext) (o : Option Subscriber) → AreDisjoint leases → IsHeldAt leases at e o
     → IfSome o (λ (owner : Subscriber). holders leases e.addr e.port at ≡ owner ∷ [])
@@ -144,7 +170,7 @@ named_by leases at e None apart h = tt
 named_by leases at e (Some owner) apart h = sole_holder leases owner e.addr e.port at apart h
 
 pub kept_named : (s : State) (i : Item) → AreDisjoint s.leases → IsKept s i → IsNamed s.leases i
-kept_named s i apart h = named_by s.leases i.at.0 (source_of i.bytes) i.owner apart h.held
+kept_named s i apart h = named_by s.leases i.at.0 (source_of i) i.owner apart h.held
 
 pub names_run : (s : State) (events : List Event) → IsReached s → AreDisjoint s.leases
     → All (IsNamed (run s events).state.leases) (run s events).items

@@ -1,6 +1,6 @@
 -- The row that a search found, by its place in the table.
 use Rattle.std.proofs.Common.{◌≡◌, ltb, ℕ, suc, ◌+◌, ◌<◌, ◌≤◌, Bool, true, false, not, cond, List, [], ◌∷◌, length, Option, Some}
-use Rattle.std.proofs.Common.{None, find, option_map, refl, sym, ap, ◌∙◌, subst, inl, inr, arith}
+use Rattle.std.proofs.Common.{None, IfNone, IfSome, find, option_map, refl, sym, ap, ap₂, ◌∙◌, subst, inl, inr, arith}
 use Rattle.std.specs.Prelude.{Result, if◌then◌else◌, slice_get}
 use Rattle.std.specs.List.{position, position_or_len}
 use Rattle.std.proofs.lemmas.List.Folds.{find_at}
@@ -53,19 +53,19 @@ no_item p xs h = find_at p xs ∙ past_end xs (position_or_len p xs) (ltb-false 
 
 -- ---- the row that is touched
 
-touched_by : (key : InnerKey) (peer : Peer) (r : Mapping) (rows : List Mapping) (n : ℕ) (b : Bool) → touched_at n peer rows ≡ touched key peer rows
+touched_by : (test : Mapping → Bool) (peer : Peer) (r : Mapping) (rows : List Mapping) (n : ℕ) (b : Bool)
+    → touched_at n peer rows ≡ touched test peer rows
     → touched_at (cond (not b) (1 + n) 0) peer (r ∷ rows)
-    ≡ (if b then record r { peers = with_peer peer r.peers } ∷ rows else r ∷ touched key peer rows)
-touched_by key peer r rows n true h = refl
-touched_by key peer r rows n false h =
+    ≡ (if b then record r { peers = with_peer peer r.peers } ∷ rows else r ∷ touched test peer rows)
+touched_by test peer r rows n true h = refl
+touched_by test peer r rows n false h =
     let next : 1 + n ≡ suc n = omega arith in
     ap (λ (m : ℕ). touched_at m peer (r ∷ rows)) next ∙ ap (λ (rs : List Mapping). r ∷ rs) h
 
-touched_first : (key : InnerKey) (peer : Peer) (rows : List Mapping)
-    → touched_at (position_or_len (is_of key) rows) peer rows ≡ touched key peer rows
-touched_first key peer [] = refl
-touched_first key peer (r ∷ rows) = touched_by key peer r rows (position_or_len (is_of key) rows) (is_of key r)
-    (touched_first key peer rows)
+touched_first : (test : Mapping → Bool) (peer : Peer) (rows : List Mapping)
+    → touched_at (position_or_len test rows) peer rows ≡ touched test peer rows
+touched_first test peer [] = refl
+touched_first test peer (r ∷ rows) = touched_by test peer r rows (position_or_len test rows) (test r) (touched_first test peer rows)
 
 -- ---- by what the table's searches answer
 
@@ -99,12 +99,46 @@ granted_there s f id r found here =
 pub granted_anew : (s : State) (f : Flow) → None ≡ row_of f.key s.rows → place_for s f ≡ granted s f
 granted_anew s f none = sym (ap (by_row s f) (unfound f.key s.rows none))
 
-pub touched_there : (key : InnerKey) (peer : Peer) (rows : List Mapping) (id : RowId) → Some id ≡ row_of key rows
-    → touched_at id.0 peer rows ≡ touched key peer rows
-touched_there key peer rows id found =
-    let at = place_of (position (is_of key) rows) id found in
-    ap (λ (n : ℕ). touched_at n peer rows) (sym (in_list rows _ (position_or_len (is_of key) rows) id.0 at))
-    ∙ touched_first key peer rows
+pub touched_there : (test : Mapping → Bool) (peer : Peer) (rows : List Mapping) (id : RowId)
+    → Some id ≡ option_map row_id (position test rows) → touched_at id.0 peer rows ≡ touched test peer rows
+touched_there test peer rows id found =
+    let at = place_of (position test rows) id found in
+    ap (λ (n : ℕ). touched_at n peer rows) (sym (in_list rows _ (position_or_len test rows) id.0 at))
+    ∙ touched_first test peer rows
+
+-- ---- rows stay in their places where one is touched
+
+-- the test doesn't look at peers
+abbrev pub IgnoresPeers : (Mapping → Bool) → Type 0
+IgnoresPeers test = (r : Mapping) (peers : List Peer) → test (record r { peers = peers }) ≡ test r
+
+stays_by : (test : Mapping → Bool) (r : Mapping) (peers : List Peer) (rows after : List Mapping) (b : Bool) → IgnoresPeers test
+    → position_or_len test after ≡ position_or_len test rows
+    → position_or_len test (if b then record r { peers = peers } ∷ rows else r ∷ after) ≡ position_or_len test (r ∷ rows)
+stays_by test r peers rows after true same h =
+    ap (λ (x : Bool). cond (not x) (1 + position_or_len test rows) 0) (same r peers)
+stays_by test r peers rows after false same h = ap (λ (n : ℕ). cond (not (test r)) (1 + n) 0) h
+
+stays_first : (test other : Mapping → Bool) (peer : Peer) (rows : List Mapping) → IgnoresPeers test
+    → position_or_len test (touched other peer rows) ≡ position_or_len test rows
+stays_first test other peer [] same = refl
+stays_first test other peer (r ∷ rows) same =
+    stays_by test r (with_peer peer r.peers) rows (touched other peer rows) (other r) same (stays_first test other peer rows same)
+
+many_by : (r : Mapping) (peers : List Peer) (rows after : List Mapping) (b : Bool) → length after ≡ length rows
+    → length (if b then record r { peers = peers } ∷ rows else r ∷ after) ≡ length (r ∷ rows)
+many_by r peers rows after true h = refl
+many_by r peers rows after false h = ap suc h
+
+as_many : (other : Mapping → Bool) (peer : Peer) (rows : List Mapping) → length (touched other peer rows) ≡ length rows
+as_many other peer [] = refl
+as_many other peer (r ∷ rows) = many_by r (with_peer peer r.peers) rows (touched other peer rows) (other r) (as_many other peer rows)
+
+pub place_stays : (proto : Proto) (ext : Ext) (other : Mapping → Bool) (peer : Peer) (rows : List Mapping)
+    → row_at proto ext (touched other peer rows) ≡ row_at proto ext rows
+place_stays proto ext other peer rows =
+    ap₂ (λ (n len : ℕ). option_map row_id (cond (ltb n len) (Some n) None))
+    (stays_first (is_at proto ext) other peer rows (λ r peers. refl)) (as_many other peer rows)
 
 pub found_there : (proto : Proto) (ext : Ext) (rows : List Mapping) (id : RowId) (r : Mapping) → Some id ≡ row_at proto ext rows
     → slice_get rows id.0 ≡ Some r → Some r ≡ find_in proto ext rows
@@ -113,3 +147,19 @@ found_there proto ext rows id r found here = sym
 
 pub found_none : (proto : Proto) (ext : Ext) (rows : List Mapping) → None ≡ row_at proto ext rows → None ≡ find_in proto ext rows
 found_none proto ext rows none = sym (no_item (is_at proto ext) rows (no_place (position (is_at proto ext) rows) none))
+
+pub found_at : (proto : Proto) (ext : Ext) (rows : List Mapping) (o : Option RowId) → o ≡ row_at proto ext rows
+    → IfSome o (λ id. (row : Mapping) × (slice_get rows id.0 ≡ Some row) × (find_in proto ext rows ≡ Some row))
+found_at proto ext rows None h = tt
+found_at proto ext rows (Some id) h =
+    let at = place_of (position (is_at proto ext) rows) id h in
+    let (r, lt, here) = item_at rows id.0 (in_range (is_at proto ext) rows id.0 at) in
+    (r, here, item_there (is_at proto ext) rows id.0 at ∙ here)
+
+pub unfound_at : (proto : Proto) (ext : Ext) (rows : List Mapping) (o : Option RowId) → o ≡ row_at proto ext rows
+    → IfNone o (find_in proto ext rows ≡ None)
+unfound_at proto ext rows None h = sym (found_none proto ext rows h)
+unfound_at proto ext rows (Some id) h = tt
+
+pub live_at : (proto : Proto) (ext : Ext) (rows : List Mapping) (id : RowId) → Some id ≡ row_at proto ext rows → id.0 < length rows
+live_at proto ext rows id found = in_range (is_at proto ext) rows id.0 (place_of (position (is_at proto ext) rows) id found)

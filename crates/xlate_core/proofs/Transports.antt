@@ -5,8 +5,10 @@ use Rattle.aftr_base.specs.Bytes.{u8_at, u16_at}
 use Rattle.aftr_base.specs.declared.value.Proto.{Proto}
 use Rattle.aftr_base.specs.declared.value.Proto.TheVariants.{Tcp, Udp, Icmp}
 use Rattle.aftr_base.specs.declared.event.DropCause.TheVariants.{NoProtocol}
-use Rattle.wire_l4.specs.Grammar.{Segment, Transport, Ports, segment_at, tcp_of, transport_in, transport_of, udp_of}
-use Rattle.wire_l4.specs.Places.{proto_of}
+use Rattle.aftr_base.specs.declared.value.Ext.{Ext}
+use Rattle.wire_l4.specs.Grammar.{Segment, Transport, Ports, Query, echo_of, segment_at, tcp_of, transport_in, transport_of, udp_of}
+use Rattle.wire_l4.specs.Places.{port_at, proto_of, replaced}
+use Rattle.xlate_core.specs.Datagram.{flags_of}
 use Rattle.xlate_core.specs.Packet.{proto_from}
 use Rattle.xlate_core.proofs.Attempts.{step_gave, test_passed, ok_inj}
 
@@ -59,3 +61,31 @@ pub is_read : (n : ℕ) (proto : Proto) (bytes : List ℕ) (t : Transport) → p
 is_read n Udp bytes t known h = read_udp bytes t h
 is_read n Tcp bytes t known h = read_tcp bytes t h
 is_read n Icmp bytes t known h = absurd (never_icmp (n == 17) (n == 6) known)
+
+-- what was read is what stands there
+pub read_in : (proto : Proto) (bytes : List ℕ) (t : Transport) → transport_of proto bytes ≡ Ok t → transport_in proto bytes ≡ t
+read_in Udp bytes t h =
+    let (s, opens, same) = step_gave (udp_of bytes) _ t h in
+    ap (Ports Udp) (udp_read bytes s opens).0 ∙ ok_inj (Ports Udp s) t _ refl same
+read_in Tcp bytes t h =
+    let (s, opens, same) = step_gave (tcp_of bytes) _ t h in
+    ap (Ports Tcp) (tcp_read bytes s opens).0 ∙ ok_inj (Ports Tcp s) t _ refl same
+read_in Icmp bytes t h =
+    let same = (test_passed (nat_le 8 (length bytes)) _ _ t h).1 in
+    ok_inj (Query (echo_of bytes)) t _ refl same
+
+-- ---- with one place replaced
+
+pub proto_kept : (source : Bool) (old new : Ext) (t : Transport) → proto_of (replaced source old new t) ≡ proto_of t
+proto_kept source old new (Ports p s) = refl
+proto_kept source old new (Query e) = refl
+
+pub flags_kept : (source : Bool) (old new : Ext) (t : Transport) → flags_of (replaced source old new t) ≡ flags_of t
+flags_kept source old new (Ports Tcp s) = refl
+flags_kept source old new (Ports Udp s) = refl
+flags_kept source old new (Ports Icmp s) = refl
+flags_kept source old new (Query e) = refl
+
+pub source_put : (old new : Ext) (t : Transport) → port_at true (replaced true old new t) ≡ new.port
+source_put old new (Ports p s) = refl
+source_put old new (Query e) = refl

@@ -1,5 +1,6 @@
 -- In which ways a record is treated.
-use Rattle.std.proofs.Common.{◌≡◌, true, ℕ, ◌+◌, ◌<◌, ◌≤◌, false, cond, List, Option, Some, All, Result, Ok, Err, ok_or, nat_le, nat_lt, refl, ap, ◌∙◌, subst}
+use Rattle.std.proofs.Common.{◌≡◌, ℕ, ◌+◌, ◌<◌, ◌≤◌, Bool, true, false, cond, List, Some, Result, Ok, Err, ok_or, nat_le, nat_lt, refl, ap, subst}
+use Rattle.std.specs.Prelude.{if◌then◌else◌}
 use Rattle.std.proofs.lemmas.Bool.{leb-true, ltb-true}
 use Rattle.aftr_base.specs.Attempt.{◌>>=◌}
 use Rattle.aftr_base.specs.declared.value.Ip6.{Ip6}
@@ -13,19 +14,20 @@ use Rattle.cfg_text.specs.declared.config.Config.{Config}
 use Rattle.nat_mapping.specs.Rows.{Mapping}
 use Rattle.xlate_core.specs.declared.grant.Grant.{Grant}
 use Rattle.xlate_core.specs.declared.grant.Sender.{Sender}
-use Rattle.nat_mapping.specs.Rows.{is_at}
 use Rattle.xlate_core.specs.Rows.{find_in}
 use Rattle.xlate_core.specs.subscriber_table.Under.{subscriber_of}
 use Rattle.xlate_core.specs.State.{State, Step}
-use Rattle.xlate_core.specs.Datagram.{Datagram, place_on}
+use Rattle.xlate_core.specs.Datagram.{Datagram}
 use Rattle.xlate_core.specs.Outbound.{Outbound, outbound_of, outward, tunnelled}
 use Rattle.xlate_core.specs.Inbound.{inbound_of}
+use Rattle.xlate_core.specs.declared.arrival.Arrival.{Arrival}
+use Rattle.xlate_core.specs.Arrivals.{arrival_of, receiver_of}
+use Rattle.xlate_core.specs.Grant.{granted_only}
 use Rattle.xlate_core.specs.Step.{treatment, mapped, admitted_outbound, admitted_inbound, sent_out, sent_in, dropped, quiet}
-use Rattle.wire_l4.specs.Places.{proto_of}
-use Rattle.aftr_base.proofs.Founds.{found_in}
+use Rattle.xlate_core.specs.Step.{flow_of, forwarding_step, hairpin_step, held_back, sent_back, turned, turns_back}
 use Rattle.cfg_text.specs.Accepted.{by_address}
 use Rattle.nat_filter.specs.Admits.{admits as lets_in}
-use Rattle.xlate_core.proofs.Attempts.{gave, step_gave, test_passed, was_there, went, ok_inj}
+use Rattle.xlate_core.proofs.Attempts.{step_gave, test_passed, was_there, ok_inj}
 
 -- ---- what was received
 
@@ -72,17 +74,32 @@ pub record IsOut (s : State) (bytes : List ℕ) (got : Outbound) (g : Grant) : T
   pub owns : subscriber_of s.config got.who.softwire ≡ Some got.who.owner
   pub grants : mapped s got ≡ Ok g
 
+-- a datagram that a mapping receives
+pub record IsReceived (s : State) (a : Arrival) (row : Mapping) : Type 0 where
+  pub finds : find_in a.proto a.to s.rows ≡ Some row
+  pub filters : lets_in row a.from.addr (by_address s.config) ≡ true
+  pub fits : 40 + a.total ≤ s.config.softwire_mtu
+
+pub is_received : (s : State) (a : Arrival) (row : Mapping) → receiver_of s a ≡ Ok row → IsReceived s a row
+is_received s a row h =
+    let (r, found, next) = step_gave (ok_or (find_in a.proto a.to s.rows) NoMapping) _ row h in
+    let (filters, next') = test_passed (lets_in r a.from.addr (by_address s.config)) Filtered _ row next in
+    let (fits, same) = test_passed (nat_le (40 + a.total) s.config.softwire_mtu) NoProtocol _ row next' in
+    subst (IsReceived s a) (ok_inj r row _ refl same) (record {
+      finds = was_there (find_in a.proto a.to s.rows) NoMapping r found;
+      filters = filters;
+      fits = leb-true (40 + a.total) s.config.softwire_mtu fits;
+    })
+
 -- a record from the public side that goes in, by this row
 pub record IsIn (s : State) (bytes : List ℕ) (d : Datagram) (row : Mapping) : Type 0 where
   pub settled : s.floor < s.clock
   pub admits : inbound_of s.config bytes ≡ Ok d
-  pub finds : find_in (proto_of d.body) (place_on false d) s.rows ≡ Some row
-  pub filters : lets_in row d.header.fields.src (by_address s.config) ≡ true
-  pub fits : 40 + d.header.fields.total ≤ s.config.softwire_mtu
+  pub receives : IsReceived s (arrival_of d) row
 
--- what holds of each row holds of it
-pub of_its_row : {s : State} {bytes : List ℕ} {d : Datagram} {row : Mapping} (P : Mapping → Type 0) → IsIn s bytes d row → All P s.rows → P row
-of_its_row {s = s} {d = d} {row = row} P by all = found_in P (is_at (proto_of d.body) (place_on false d)) s.rows row all by.finds
+-- a subscriber's record that turns back, by this row
+abbrev pub IsTurned : State → Outbound → Grant → Mapping → Type 0
+IsTurned s got g row = IsReceived (granted_only (flow_of got) g s) (arrival_of (turned got g)) row
 
 abbrev both : Outbound → Grant → Outbound × Grant
 both got g = (got, g)
@@ -107,43 +124,44 @@ pub is_in : (s : State) (bytes : List ℕ) (d : Datagram) (row : Mapping) → ad
 is_in s bytes d row h =
     let (late, inside) = test_passed (nat_lt s.floor s.clock) Settling _ (datagram_by d row) h in
     let (x, admits, next) = step_gave (inbound_of s.config bytes) _ (datagram_by d row) inside in
-    let (r, found, next') = step_gave (ok_or (find_in (proto_of x.body) (place_on false x) s.rows) NoMapping) _ (datagram_by d row) next in
-    let (filters, next2) = test_passed (lets_in r x.header.fields.src (by_address s.config)) Filtered _ (datagram_by d row) next' in
-    let (fits, same) = test_passed (nat_le (40 + x.header.fields.total) s.config.softwire_mtu) NoProtocol _ (datagram_by d row) next2 in
+    let (r, receives, same) = step_gave (receiver_of s (arrival_of x)) _ (datagram_by d row) next in
     let is : datagram_by x r ≡ datagram_by d row = ok_inj (datagram_by x r) (datagram_by d row) _ refl same in
     subst (λ (z : Datagram × Mapping). IsIn s bytes z.0 z.1) is (record {
       settled = ltb-true s.floor s.clock late;
       admits = admits;
-      finds = was_there (find_in (proto_of x.body) (place_on false x) s.rows) NoMapping r found;
-      filters = filters;
-      fits = leb-true (40 + x.header.fields.total) s.config.softwire_mtu fits;
+      receives = is_received s (arrival_of x) r receives;
     })
-
--- a record that passes each rule
-pub admits_in : (s : State) (bytes : List ℕ) (d : Datagram) (row : Mapping) → nat_lt s.floor s.clock ≡ true
-    → inbound_of s.config bytes ≡ Ok d → find_in (proto_of d.body) (place_on false d) s.rows ≡ Some row
-    → lets_in row d.header.fields.src (by_address s.config) ≡ true
-    → nat_le (40 + d.header.fields.total) s.config.softwire_mtu ≡ true → admitted_inbound s bytes ≡ Ok (datagram_by d row)
-admits_in s bytes d row late from found filters fits =
-    went (nat_lt s.floor s.clock) Settling _ late ∙ gave (inbound_of s.config bytes) _ d from
-    ∙ gave (ok_or (find_in (proto_of d.body) (place_on false d) s.rows) NoMapping) _ row
-    (ap (λ (o : Option Mapping). ok_or o NoMapping) found)
-    ∙ went (lets_in row d.header.fields.src (by_address s.config)) Filtered _ filters
-    ∙ went (nat_le (40 + d.header.fields.total) s.config.softwire_mtu) NoProtocol _ fits
 
 -- ---- the ways of a treatment
 
--- what holds of a record that changes nothing, of a drop, of a packet that goes in and of one that goes out
+-- what holds of a record that changes nothing, of a drop, of a packet that goes in, of one that goes out, of one that turns back
+-- and of one that no mapping receives
 pub record EachWay (P : Step → Type 0) (s : State) (bytes : List ℕ) : Type 0 where
   pub rests : P (quiet s)
   pub drops : (cause : DropCause) → P (dropped s cause)
   pub delivers : (d : Datagram) (row : Mapping) → IsIn s bytes d row → P (sent_in s d row)
-  pub forwards : (got : Outbound) (g : Grant) → IsOut s bytes got g → P (sent_out s got g)
+  pub forwards : (got : Outbound) (g : Grant) → IsOut s bytes got g → turns_back s got ≡ false → P (sent_out s got g)
+  pub turns : (got : Outbound) (g : Grant) (row : Mapping) → IsOut s bytes got g → IsTurned s got g row → P (sent_back s got g row)
+  pub holds : (got : Outbound) (g : Grant) (cause : DropCause) → IsOut s bytes got g → P (held_back s got g cause)
+
+way_back : (P : Step → Type 0) (s : State) (bytes : List ℕ) (got : Outbound) (g : Grant) (r : Result Mapping DropCause)
+    → receiver_of (granted_only (flow_of got) g s) (arrival_of (turned got g)) ≡ r → IsOut s bytes got g → EachWay P s bytes
+    → P (elim r [ Err cause ↦ held_back s got g cause | Ok row ↦ sent_back s got g row ])
+way_back P s bytes got g (Err cause) e is each = each.holds got g cause is
+way_back P s bytes got g (Ok row) e is each =
+    each.turns got g row is (is_received (granted_only (flow_of got) g s) (arrival_of (turned got g)) row e)
+
+way_on : (P : Step → Type 0) (s : State) (bytes : List ℕ) (got : Outbound) (g : Grant) (back : Bool) → turns_back s got ≡ back
+    → IsOut s bytes got g → EachWay P s bytes → P (if back then hairpin_step s got g else sent_out s got g)
+way_on P s bytes got g true e is each =
+    way_back P s bytes got g (receiver_of (granted_only (flow_of got) g s) (arrival_of (turned got g))) refl is each
+way_on P s bytes got g false e is each = each.forwards got g is e
 
 way_out : (P : Step → Type 0) (s : State) (bytes : List ℕ) (r : Result (Outbound × Grant) DropCause) → admitted_outbound s bytes ≡ r
-    → EachWay P s bytes → P (elim r [ Err cause ↦ dropped s cause | Ok found ↦ sent_out s found.0 found.1 ])
+    → EachWay P s bytes → P (elim r [ Err cause ↦ dropped s cause | Ok found ↦ forwarding_step s found.0 found.1 ])
 way_out P s bytes (Err cause) e each = each.drops cause
-way_out P s bytes (Ok found) e each = each.forwards found.0 found.1 (is_out s bytes found.0 found.1 e)
+way_out P s bytes (Ok found) e each =
+    way_on P s bytes found.0 found.1 (turns_back s found.0) refl (is_out s bytes found.0 found.1 e) each
 
 way_in : (P : Step → Type 0) (s : State) (bytes : List ℕ) (r : Result (Datagram × Mapping) DropCause) → admitted_inbound s bytes ≡ r
     → EachWay P s bytes → P (elim r [ Err cause ↦ dropped s cause | Ok found ↦ sent_in s found.0 found.1 ])

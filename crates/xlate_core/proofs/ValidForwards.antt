@@ -34,7 +34,7 @@ use Rattle.xlate_core.specs.State.{State, latest}
 use Rattle.xlate_core.specs.Valid.{AreGranted, IsConsistent, lies_in_lease, is_granted, is_owned, is_lease_by}
 use Rattle.xlate_core.specs.declared.grant.Grant.{Grant}
 use Rattle.xlate_core.specs.Endpoints.{outbound_peer, state_among}
-use Rattle.xlate_core.specs.Grant.{after_grant, at_once, granted, known_state, new_lease, peer_of, row_for}
+use Rattle.xlate_core.specs.Grant.{after_grant, at_once, granted, granted_only, known_state, new_lease, peer_of, row_for}
 use Rattle.aftr_base.proofs.Founds.{found_passes, found_in, found_none, some_inj, any_gives}
 use Rattle.xlate_core.proofs.ValidExpiry.{here_from, lease_from, lies_here, lies_parts}
 use Rattle.xlate_core.proofs.ValidRows.{consistent_opened, consistent_pushed, consistent_touched, granted_by, lies_at}
@@ -133,24 +133,24 @@ with_lists s rows leases = record s { rows = rows; leases = leases }
 
 -- the rows, where the key has a row or none
 abbrev rows_by : Option Mapping → Flow → Peer → Ext → List Mapping → List Mapping
-rows_by o f p e rows = if is_some o then touched f.key p rows else rows ++ row_for f p e ∷ []
+rows_by o f p e rows = if is_some o then touched (is_of f.key) p rows else rows ++ row_for f p e ∷ []
 
 pub after_keeps : (s : State) (f : Flow) (g : Grant) (r : Mapping) → find_out f.key s.rows ≡ Some r → g ≡ at_once r.ext
-    → after_grant f g s ≡ record s { rows = touched f.key (peer_of s f) s.rows }
+    → after_grant f g s ≡ record s { rows = touched (is_of f.key) (peer_of s f) s.rows }
 after_keeps s f g r found same =
     let p = peer_of s f in
     ap₂ (with_lists s) (ap (λ (o : Option Mapping). rows_by o f p g.place s.rows) found)
     (ap (λ (x : Grant). s.leases ++ option_to_list x.lease) same ∙ append-nil s.leases)
 
 known_case : (s : State) (f : Flow) (g : Grant) (r : Mapping) → find_out f.key s.rows ≡ Some r → GrantCase s f g
-    → after_grant f g s ≡ record s { rows = touched f.key (peer_of s f) s.rows }
+    → after_grant f g s ≡ record s { rows = touched (is_of f.key) (peer_of s f) s.rows }
 known_case s f g r there (Keeps q found same) = after_keeps s f g q found same
 known_case s f g r there (Takes x none taken same) = absurd (none_some r (sym none ∙ there))
 known_case s f g r there (Opens b none free same) = absurd (none_some r (sym none ∙ there))
 
 -- where the key has a row
 pub after_known : (s : State) (f : Flow) (g : Grant) (r : Mapping) → find_out f.key s.rows ≡ Some r → granted s f ≡ given g
-    → after_grant f g s ≡ record s { rows = touched f.key (peer_of s f) s.rows }
+    → after_grant f g s ≡ record s { rows = touched (is_of f.key) (peer_of s f) s.rows }
 after_known s f g r there h = known_case s f g r there (grant_cases s f g h)
 
 -- a new row, and the lease that opens for it
@@ -176,6 +176,25 @@ pub next_peer : (s : State) (f : Flow) (r : Mapping) → find_out f.key s.rows �
     → outbound_peer s.config s.clock f.key.proto f.remote f.flags (state_among f.key.proto f.remote r.peers) ≡ peer_of s f
 next_peer s f r there =
     ap (λ (o : Option Mapping). outbound_peer s.config s.clock f.key.proto f.remote f.flags (known_state f o)) (sym there)
+
+-- the grant alone, which an old row isn't touched by
+pub only_new : (s : State) (f : Flow) (g : Grant) → find_out f.key s.rows ≡ None → granted_only f g s ≡ after_grant f g s
+only_new s f g none =
+    let p = peer_of s f in
+    ap (λ (o : Option Mapping). with_lists s (if is_some o then s.rows else s.rows ++ row_for f p g.place ∷ [])
+    (s.leases ++ option_to_list g.lease)) none ∙ sym (after_new s f g none)
+
+only_case : (s : State) (f : Flow) (g : Grant) (r : Mapping) → find_out f.key s.rows ≡ Some r → GrantCase s f g → granted_only f g s ≡ s
+only_case s f g r there (Keeps q found same) =
+    let p = peer_of s f in
+    ap₂ (with_lists s) (ap (λ (o : Option Mapping). if is_some o then s.rows else s.rows ++ row_for f p g.place ∷ []) found)
+    (ap (λ (x : Grant). s.leases ++ option_to_list x.lease) same ∙ append-nil s.leases)
+only_case s f g r there (Takes x none taken same) = absurd (none_some r (sym none ∙ there))
+only_case s f g r there (Opens b none free same) = absurd (none_some r (sym none ∙ there))
+
+pub only_known : (s : State) (f : Flow) (g : Grant) (r : Mapping) → find_out f.key s.rows ≡ Some r → granted s f ≡ given g
+    → granted_only f g s ≡ s
+only_known s f g r there h = only_case s f g r there (grant_cases s f g h)
 
 pub after_takes : (s : State) (f : Flow) (g : Grant) (e : Ext) → find_out f.key s.rows ≡ None → g ≡ at_once e
     → after_grant f g s ≡ record s { rows = s.rows ++ row_for f (peer_of s f) e ∷ [] }
@@ -211,7 +230,7 @@ row_owned s f p e h = ap (owned_by f.who.owner) h ∙ own_subscriber f.who.owner
 
 consistent_case : (s : State) (f : Flow) (g : Grant) → IsGrant s f g → IsConsistent s → GrantCase s f g → IsConsistent (after_grant f g s)
 consistent_case s f g h v (Keeps r found same) =
-    subst IsConsistent (sym (after_keeps s f g r found same)) (consistent_touched s f.key (peer_of s f) v)
+    subst IsConsistent (sym (after_keeps s f g r found same)) (consistent_touched s (is_of f.key) (peer_of s f) v)
 consistent_case s f g h v (Takes x none taken same) =
     let p = peer_of s f in
     let keys = found_none (is_of f.key) s.rows none in

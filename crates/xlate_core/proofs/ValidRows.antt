@@ -65,9 +65,9 @@ touched_by : (b : Bool) (r : Mapping) (peers : List Peer) (rows after : List Map
 touched_by true r peers rows after z = (row_kept r, zip_same SameRow row_kept rows)
 touched_by false r peers rows after z = (row_kept r, z)
 
-pub rows_touched : (key : InnerKey) (p : Peer) (rows : List Mapping) → AllZip SameRow rows (touched key p rows)
-rows_touched key p [] = tt
-rows_touched key p (r ∷ rows) = touched_by (key_eq key r.key) r (with_peer p r.peers) rows (touched key p rows) (rows_touched key p rows)
+pub rows_touched : (test : Mapping → Bool) (p : Peer) (rows : List Mapping) → AllZip SameRow rows (touched test p rows)
+rows_touched test p [] = tt
+rows_touched test p (r ∷ rows) = touched_by (test r) r (with_peer p r.peers) rows (touched test p rows) (rows_touched test p rows)
 
 -- a place lies in an open lease of this owner
 abbrev pub lies_at : List LeaseRow → Subscriber → Ext → Bool
@@ -106,21 +106,22 @@ granted_touched_at leases at p rows h =
     all_zip SameRow granted granted (lies_same leases) rows (touched_at at p rows) (rows_touched_at at p rows) h
 
 -- rows that lie in open leases do so with other peers
-pub granted_touched : (leases : List LeaseRow) (key : InnerKey) (p : Peer) (rows : List Mapping) → AreGranted rows leases
-    → AreGranted (touched key p rows) leases
-granted_touched leases key p rows h =
+pub granted_touched : (leases : List LeaseRow) (test : Mapping → Bool) (p : Peer) (rows : List Mapping) → AreGranted rows leases
+    → AreGranted (touched test p rows) leases
+granted_touched leases test p rows h =
     let granted = λ (r : Mapping). list_any (lies_in_lease r) leases ≡ true in
-    all_zip SameRow granted granted (lies_same leases) rows (touched key p rows) (rows_touched key p rows) h
+    all_zip SameRow granted granted (lies_same leases) rows (touched test p rows) (rows_touched test p rows) h
 
-pub consistent_touched : (s : State) (key : InnerKey) (p : Peer) → IsConsistent s → IsConsistent (record s { rows = touched key p s.rows })
-consistent_touched s key p v =
-    let z = rows_touched key p s.rows in
+pub consistent_touched : (s : State) (test : Mapping → Bool) (p : Peer) → IsConsistent s
+    → IsConsistent (record s { rows = touched test p s.rows })
+consistent_touched s test p v =
+    let z = rows_touched test p s.rows in
     let owned = λ (r : Mapping). is_owned s r ≡ true in
     let apart = λ (r q : Mapping). are_alike r q ≡ false in
     record {
-      granted = granted_touched s.leases key p s.rows v.granted;
-      owned = all_zip SameRow owned owned (owned_same s) s.rows (touched key p s.rows) z v.owned;
-      apart = pairs_zip SameRow apart apart alike_same s.rows (touched key p s.rows) z v.apart;
+      granted = granted_touched s.leases test p s.rows v.granted;
+      owned = all_zip SameRow owned owned (owned_same s) s.rows (touched test p s.rows) z v.owned;
+      apart = pairs_zip SameRow apart apart alike_same s.rows (touched test p s.rows) z v.apart;
       leases = v.leases;
       open_apart = v.open_apart;
     }

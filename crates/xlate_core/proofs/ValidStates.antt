@@ -1,5 +1,5 @@
 -- Every state that a run comes to is consistent.
-use Rattle.std.proofs.Common.{◌≡◌, ℕ, ◌≤◌, true, List, [], ◌∷◌, Option, Some, None, All, get_or, max, refl, sym, ◌∙◌, subst, arith}
+use Rattle.std.proofs.Common.{◌≡◌, ℕ, ◌≤◌, Bool, true, List, [], ◌∷◌, Option, Some, None, All, get_or, max, refl, sym, ◌∙◌, subst, arith}
 use Rattle.std.proofs.lemmas.List.Elements.{All-nil, All-head, All-tail}
 use Rattle.aftr_base.specs.declared.event.Event.{Event}
 use Rattle.aftr_base.specs.declared.event.EventKind.{EventKind}
@@ -12,14 +12,18 @@ use Rattle.xlate_core.specs.Outbound.{Outbound}
 use Rattle.xlate_core.specs.State.{State, Step, latest}
 use Rattle.xlate_core.specs.Expiry.{at_moment}
 use Rattle.xlate_core.specs.Valid.{IsConsistent, IsStart, is_granted, is_owned, is_lease_by}
-use Rattle.xlate_core.specs.Step.{flow_of, moved_peer, step, treatment}
-use Rattle.xlate_core.specs.Rows.{touched}
+use Rattle.nat_mapping.specs.Rows.{Mapping, is_at}
+use Rattle.xlate_core.specs.declared.arrival.Arrival.{Arrival}
+use Rattle.xlate_core.specs.declared.grant.Flow.{Flow}
+use Rattle.xlate_core.specs.Arrivals.{arrival_of, moved_in, rows_inbound}
+use Rattle.xlate_core.specs.Grant.{after_grant, granted_only}
+use Rattle.xlate_core.specs.Step.{flow_of, step, treatment, turned}
+use Rattle.xlate_core.specs.Rows.{find_out, touched}
 use Rattle.nat_mapping.specs.declared.row.Peer.{Peer}
-use Rattle.aftr_base.specs.declared.value.InnerKey.{InnerKey}
 use Rattle.xlate_core.specs.Run.{run, start}
 use Rattle.xlate_core.proofs.Clock.{config_stays, floor_stays, moment_clock}
 use Rattle.xlate_core.proofs.ValidExpiry.{closed_first, consistent_moment}
-use Rattle.xlate_core.proofs.ValidForwards.{consistent_grant}
+use Rattle.xlate_core.proofs.ValidForwards.{consistent_grant, only_known, only_new}
 use Rattle.xlate_core.proofs.ValidGrants.{IsGrant}
 use Rattle.xlate_core.proofs.ValidRows.{consistent_horizon, consistent_touched}
 use Rattle.xlate_core.proofs.Treatments.{IsOut, by_way}
@@ -51,7 +55,9 @@ treated_beside s bytes kind = by_way (IsBeside s) s bytes kind (record {
   rests = record { clock = refl; config = refl; floor = refl; horizon = refl; plans = refl };
   drops = λ cause. record { clock = refl; config = refl; floor = refl; horizon = refl; plans = refl };
   delivers = λ d r by. record { clock = refl; config = refl; floor = refl; horizon = refl; plans = refl };
-  forwards = λ got g by. record { clock = refl; config = refl; floor = refl; horizon = refl; plans = refl };
+  forwards = λ got g by abroad. record { clock = refl; config = refl; floor = refl; horizon = refl; plans = refl };
+  turns = λ got g row by turned. record { clock = refl; config = refl; floor = refl; horizon = refl; plans = refl };
+  holds = λ got g cause by. record { clock = refl; config = refl; floor = refl; horizon = refl; plans = refl };
 })
 
 -- a packet that goes out was granted its place
@@ -60,18 +66,34 @@ pub grant_out : {s : State} {bytes : List ℕ} {got : Outbound} {g : Grant} → 
 grant_out ok by = record { accepted = ok; owns = by.owns; grants = by.grants }
 
 -- whether a connection's state moves or not
-consistent_by : (s : State) (key : InnerKey) (o : Option Peer) → IsConsistent s
-    → IsConsistent (record s { rows = elim o [ None ↦ s.rows | Some p ↦ touched key p s.rows ] })
-consistent_by s key None v = v
-consistent_by s key (Some p) v = consistent_touched s key p v
+consistent_by : (s : State) (test : Mapping → Bool) (o : Option Peer) → IsConsistent s
+    → IsConsistent (record s { rows = elim o [ None ↦ s.rows | Some p ↦ touched test p s.rows ] })
+consistent_by s test None v = v
+consistent_by s test (Some p) v = consistent_touched s test p v
+
+-- a datagram came in
+consistent_inbound : (s : State) (a : Arrival) → IsConsistent s → IsConsistent (record s { rows = rows_inbound s a })
+consistent_inbound s a v = consistent_by s (is_at a.proto a.to) (moved_in s a) v
+
+-- a grant without the packet
+only_by : (s : State) (f : Flow) (g : Grant) (o : Option Mapping) → find_out f.key s.rows ≡ o → IsGrant s f g → IsConsistent s
+    → IsConsistent (granted_only f g s)
+only_by s f g (Some r) there is v = subst IsConsistent (sym (only_known s f g r there is.grants)) v
+only_by s f g None none is v = subst IsConsistent (sym (only_new s f g none)) (consistent_grant is v)
+
+consistent_only : {s : State} {f : Flow} {g : Grant} → IsGrant s f g → IsConsistent s → IsConsistent (granted_only f g s)
+consistent_only {s = s} {f = f} {g = g} is v = only_by s f g (find_out f.key s.rows) refl is v
 
 pub consistent_treated : (s : State) (bytes : List ℕ) (kind : EventKind) → is_accepted s.config ≡ true → IsConsistent s
     → IsConsistent (treatment s kind bytes).state
 consistent_treated s bytes kind ok v = by_way (λ (t : Step). IsConsistent t.state) s bytes kind (record {
   rests = v;
   drops = λ cause. v;
-  delivers = λ d r by. consistent_by s r.key (moved_peer s.config s.clock d r.peers) v;
-  forwards = λ got g by. consistent_grant (grant_out ok by) v;
+  delivers = λ d r by. consistent_inbound s (arrival_of d) v;
+  forwards = λ got g by abroad. consistent_grant (grant_out ok by) v;
+  turns = λ got g row by back.
+      consistent_inbound (after_grant (flow_of got) g s) (arrival_of (turned got g)) (consistent_grant (grant_out ok by) v);
+  holds = λ got g cause by. consistent_only (grant_out ok by) v;
 })
 
 -- ---- a step

@@ -16,7 +16,7 @@ use Rattle.wire_ip4.specs.Grammar.{Header, header_bytes, header_of, front_of, le
 use Rattle.wire_l4.specs.Grammar.{Segment, Echo, Transport, Ports, Query, segment_bytes, segment_at, sum_bytes, transport_bytes, transport_of}
 use Rattle.wire_l4.specs.Places.{replaced, segment_sum}
 use Rattle.xlate_core.specs.State.{is_ours}
-use Rattle.xlate_core.specs.Datagram.{Datagram, datagram_bytes, translated, place_on}
+use Rattle.xlate_core.specs.Datagram.{Datagram, datagram_bytes, hairpinned, translated, place_on}
 use Rattle.xlate_core.specs.Packet.{plain_ip4, proto_from, datagram_of, has_route, is_routable}
 use Rattle.xlate_core.specs.Outbound.{outward}
 use Rattle.xlate_core.specs.Inbound.{inbound_of}
@@ -142,12 +142,15 @@ is_whole p d plain unbroken h =
 
 -- ---- either way
 
--- what a subscriber sends: it has a route, to an address outside the pool, and isn't too long
+-- what a subscriber sends: it has a route, and to an address outside the pool it isn't too long
 pub record IsOutward (c : Config) (d : Datagram) : Type 0 where
   pub whole : IsWhole d
   pub routed : has_route d.header ≡ true
-  pub leaves : is_ours c d.header.fields.dst ≡ false
-  pub fits : d.header.fields.total ≤ c.public_mtu
+  pub fits : is_ours c d.header.fields.dst ≡ false → d.header.fields.total ≤ c.public_mtu
+
+fits_abroad : (back fits : Bool) → (back || fits) ≡ true → back ≡ false → fits ≡ true
+fits_abroad true fits h e = cc
+fits_abroad false fits h e = h
 
 header_kept : (p : Header × List ℕ) (d : Datagram) → datagram_of p ≡ Ok d → p.0 ≡ d.header
 header_kept p d h =
@@ -163,14 +166,13 @@ is_outward c inner d h =
     let (routed, next2) = test_passed (has_route p.0) _ _ d next1 in
     let (x, holds, next3) = step_gave (datagram_of p) _ d next2 in
     let f = x.header.fields in
-    let (leaves, next4) = test_passed (not (is_ours c f.dst)) _ _ d next3 in
-    let next5 = (test_passed (not f.dont_cut || nat_le f.total c.public_mtu) _ _ d next4).1 in
-    let (fits, same) = test_passed (nat_le f.total c.public_mtu) _ _ d next5 in
+    let short = nat_le f.total c.public_mtu in
+    let next4 = (test_passed (is_ours c f.dst || short || not f.dont_cut) _ _ d next3).1 in
+    let (fits, same) = test_passed (is_ours c f.dst || short) _ _ d next4 in
     subst (IsOutward c) (ok_inj x d _ refl same) (record {
       whole = is_whole p x (is_plain inner p plain) (not-true (is_piece p.0) unbroken) holds;
       routed = subst (λ (k : Header). has_route k ≡ true) (header_kept p x holds) routed;
-      leaves = not-true (is_ours c f.dst) leaves;
-      fits = leb-true f.total c.public_mtu fits;
+      fits = λ abroad. leb-true f.total c.public_mtu (fits_abroad (is_ours c f.dst) short fits abroad);
     })
 
 -- what the public side sends: from a routed address outside the pool to one of the pool
@@ -228,6 +230,20 @@ length_translated source new d is =
     let t = translated source new d in
     let none : length d.header.options ≡ 0 = ap length is.options in
     omega (arith, length_header t.header (transport_bytes t.body), length_replaced source (place_on source d) new d.body, none, is.total)
+
+pub length_hairpinned : (src dst : Ext) (d : Datagram) → IsWhole d → length (datagram_bytes (hairpinned src dst d)) ≡ d.header.fields.total
+length_hairpinned src dst d is =
+    let out = translated true src d in
+    let t = hairpinned src dst d in
+    let none : length d.header.options ≡ 0 = ap length is.options in
+    omega (
+      arith,
+      length_header t.header (transport_bytes t.body),
+      length_replaced false (place_on false out) dst out.body,
+      length_replaced true (place_on true d) src d.body,
+      none,
+      is.total,
+    )
 
 -- a packet to a softwire is 40 bytes longer than what is in it
 pub length_tunnelled : (aftr softwire : Ip6) (class next : ℕ) (bytes : List ℕ)

@@ -1,10 +1,10 @@
 -- Places of leases fit into an IPv4 header and a UDP header, and are read back from there.
-use Rattle.std.proofs.Common.{◌≡◌, ℕ, ◌^◌, ◌<◌, ◌≤◌, true, List, [], ◌++◌, option_map, option_to_list, None}
+use Rattle.std.proofs.Common.{◌≡◌, ℕ, ◌^◌, ◌<◌, ◌≤◌, true, false, List, [], ◌++◌, option_map, option_to_list, None}
 use Rattle.std.proofs.Common.{All, refl, sym, ap, ◌∙◌, subst, arith}
 use Rattle.std.specs.Prelude.{IfSome}
 use Rattle.std.proofs.lemmas.List.Elements.{All-weaker, All-nil, All-cons, All-append}
 use Rattle.std.proofs.lemmas.Nat.{from_be_bytes-to_be_bytes_2, from_be_bytes-to_be_bytes_4}
-use Rattle.aftr_base.specs.Bytes.{u16_at, u32_at, be16, be32}
+use Rattle.aftr_base.specs.Bytes.{u16_at, u32_at, be16, be32, be128}
 use Rattle.aftr_base.specs.Value.{moment}
 use Rattle.aftr_base.specs.Plan.{is_prefix6}
 use Rattle.aftr_base.specs.declared.value.Ext.{Ext}
@@ -18,6 +18,8 @@ use Rattle.aftr_base.proofs.Founds.{any_gives}
 use Rattle.cfg_text.specs.Accepted.{is_accepted}
 use Rattle.cfg_text.proofs.Facts.{facts}
 use Rattle.wire_ip4.specs.Grammar.{Header, header_bytes}
+use Rattle.wire_ip6.specs.declared.fields.Ip6Fields.{Ip6Fields}
+use Rattle.wire_ip6.specs.Grammar.{header_bytes as tunnel_header}
 use Rattle.wire_l4.specs.Grammar.{Segment, Transport, Ports, segment_bytes, transport_bytes}
 use Rattle.wire_l4.specs.Places.{segment_sum}
 use Rattle.nat_mapping.specs.Rows.{Mapping}
@@ -31,7 +33,7 @@ use Rattle.xlate_core.specs.State.{State, Step}
 use Rattle.xlate_core.specs.Expiry.{Closed, with_idle_ended, closing_limit, at_moment}
 pub use Rattle.xlate_core.specs.Valid.{IsOnWire}
 use Rattle.xlate_core.specs.Grant.{after_grant}
-use Rattle.xlate_core.specs.Datagram.{Datagram, datagram_bytes, place_on, translated}
+use Rattle.xlate_core.specs.Datagram.{Datagram, datagram_bytes, hairpinned, place_on, translated}
 use Rattle.xlate_core.specs.Step.{step, treatment}
 use Rattle.xlate_core.proofs.Clock.{by_moment}
 use Rattle.xlate_core.proofs.WholeDatagrams.{IsWhole}
@@ -74,6 +76,35 @@ pub port_out : (e : Ext) (d : Datagram) → IsWhole d → e.port < 2 ^ 16 → u1
 port_out e d is lt =
     ap (λ (t : Transport). u16_at 20 (datagram_bytes (translated true e (with_body d t)))) is.body
     ∙ port_of_ports e d is.proto is.segment is.options lt
+
+-- ---- in a packet that turned back
+
+-- what is read behind an IPv6 header is what stands there in the packet that it carries
+pub behind_address : (f : Ip6Fields) (inner : List ℕ) → u32_at 52 (tunnel_header f ++ inner) ≡ u32_at 12 inner
+unfolding be16 be32 be128
+behind_address f inner = refl
+
+pub behind_port : (f : Ip6Fields) (inner : List ℕ) → u16_at 60 (tunnel_header f ++ inner) ≡ u16_at 20 inner
+unfolding be16 be32 be128
+behind_port f inner = refl
+
+pub address_back : (src dst : Ext) (d : Datagram) → src.addr.0 < 2 ^ 32 → u32_at 12 (datagram_bytes (hairpinned src dst d)) ≡ src.addr.0
+address_back src dst d lt = address_read (hairpinned src dst d).header (transport_bytes (hairpinned src dst d).body) lt
+
+back_of_ports : (src dst : Ext) (d : Datagram) (p : Proto) (s : Segment) → d.header.options ≡ [] → src.port < 2 ^ 16
+    → u16_at 20 (datagram_bytes (hairpinned src dst (with_body d (Ports p s)))) ≡ src.port
+back_of_ports src dst d p s bare lt =
+    let before = with_body d (Ports p s) in
+    let out : Segment = record s { src = src.port; sum = option_map (segment_sum p (place_on true before) src) s.sum } in
+    let turned = translated true src before in
+    let after : Segment = record out { dst = dst.port; sum = option_map (segment_sum p (place_on false turned) dst) out.sum } in
+    port_read (hairpinned src dst before).header after bare lt
+
+pub port_back : (src dst : Ext) (d : Datagram) → IsWhole d → src.port < 2 ^ 16
+    → u16_at 20 (datagram_bytes (hairpinned src dst d)) ≡ src.port
+port_back src dst d is lt =
+    ap (λ (t : Transport). u16_at 20 (datagram_bytes (hairpinned src dst (with_body d t)))) is.body
+    ∙ back_of_ports src dst d is.proto is.segment is.options lt
 
 -- ---- a lease's owner is a prefix, and its address and ports are numbers of 32 and of 16 bits
 
@@ -146,7 +177,9 @@ wire_treated s bytes kind ok h = by_way (λ (t : Step). All IsOnWire t.state.lea
   rests = h;
   drops = λ cause. h;
   delivers = λ d r by. h;
-  forwards = λ got g by. wire_grant (grant_out ok by) h;
+  forwards = λ got g by abroad. wire_grant (grant_out ok by) h;
+  turns = λ got g row by turned. wire_grant (grant_out ok by) h;
+  holds = λ got g cause by. wire_grant (grant_out ok by) h;
 })
 
 pub wire_step : (s : State) (e : Event) → is_accepted s.config ≡ true → All IsOnWire s.leases → All IsOnWire (step s e).state.leases

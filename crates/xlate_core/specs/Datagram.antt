@@ -1,11 +1,11 @@
 -- Whole datagrams and their translation, either way (RFC 3022 4, RFC 4787 4).
-use Rattle.std.specs.Prelude.{ℕ, Bool, true, List, ◌++◌}
+use Rattle.std.specs.Prelude.{ℕ, Bool, true, false, List, ◌++◌}
 use Rattle.aftr_base.specs.Value.{place}
 use Rattle.aftr_base.specs.declared.value.Ip6.{Ip6}
 use Rattle.aftr_base.specs.declared.value.Ext.{Ext}
 use Rattle.aftr_base.specs.declared.value.InnerKey.{InnerKey}
 use Rattle.wire_ip4.specs.Grammar.{Header, header_bytes}
-use Rattle.wire_ip4.specs.Forwarded.{address_on, forwarded}
+use Rattle.wire_ip4.specs.Forwarded.{address_on, forwarded, readdressed}
 use Rattle.aftr_base.specs.declared.value.Proto.TheVariants.{Tcp, Udp, Icmp}
 use Rattle.wire_l4.specs.Grammar.{Transport, Ports, Query, tcp_flags, transport_bytes}
 use Rattle.wire_l4.specs.Places.{proto_of, port_at, replaced}
@@ -43,3 +43,9 @@ translated source new d = record {
   header = forwarded source new.addr d.header;
   body = replaced source (place_on source d) new d.body;
 }
+
+-- The datagram between two subscribers (RFC 4787 6): its source replaced on its way out, then its destination, one hop on in all.
+abbrev pub hairpinned : Ext → Ext → Datagram → Datagram
+hairpinned src dst d =
+    let out = translated true src d in
+    record { header = readdressed false dst.addr out.header; body = replaced false (place_on false out) dst out.body }

@@ -13,7 +13,7 @@ use Rattle.aftr_base.specs.declared.event.DropCause.{DropCause}
 use Rattle.aftr_base.specs.declared.event.DropCause.TheVariants.{QuotaMappings, QuotaPeers, QuotaBlocks}
 use Rattle.aftr_base.specs.declared.event.DropCause.TheVariants.{AddressFull as NoRoom, PoolEmpty as NoBlock}
 use Rattle.nat_mapping.specs.declared.row.Peer.{Peer}
-use Rattle.nat_mapping.specs.Rows.{Mapping, has_peer, least_free, peer_count, row_count}
+use Rattle.nat_mapping.specs.Rows.{Mapping, has_peer, is_of, least_free, peer_count, row_count}
 use Rattle.port_blocks.specs.declared.choice.Block.{Block}
 use Rattle.port_blocks.specs.declared.choice.Choice.{Choice}
 use Rattle.port_blocks.specs.declared.choice.Choice.TheVariants.{New, AddressFull, PoolEmpty}
@@ -89,12 +89,23 @@ row_for f peer ext = record { key = f.key; owner = f.who.owner; ext = ext; peers
 
 -- the rows after a flow's packet went out: a new row, or the key's row with the peer
 abbrev pub rows_after : Flow → Peer → Ext → List Mapping → List Mapping
-rows_after f peer ext rows = if is_some (find_out f.key rows) then touched f.key peer rows else rows ++ row_for f peer ext ∷ []
+rows_after f peer ext rows = if is_some (find_out f.key rows) then touched (is_of f.key) peer rows else rows ++ row_for f peer ext ∷ []
 
 -- the state after a grant
 abbrev pub after_grant : Flow → Grant → State → State
 after_grant f g s = record s {
   rows = rows_after f (peer_of s f) g.place s.rows;
+  leases = s.leases ++ option_to_list g.lease;
+}
+
+-- the rows after the grant alone: a new row has its first peer at once, and an old one is as it was
+abbrev pub rows_granted : Flow → Peer → Ext → List Mapping → List Mapping
+rows_granted f peer ext rows = if is_some (find_out f.key rows) then rows else rows ++ row_for f peer ext ∷ []
+
+-- the state in which it is asked whether the flow's packet may turn back to a subscriber
+abbrev pub granted_only : Flow → Grant → State → State
+granted_only f g s = record s {
+  rows = rows_granted f (peer_of s f) g.place s.rows;
   leases = s.leases ++ option_to_list g.lease;
 }
 

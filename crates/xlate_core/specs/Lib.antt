@@ -1,4 +1,5 @@
 -- Words that the translator's contracts and those above it are written in.
+pub mod Arrivals
 pub mod Datagram
 pub mod Endpoints
 pub mod Expiry
@@ -9,6 +10,7 @@ pub mod Outbound
 pub mod Packet
 pub mod Rows
 pub mod Run
+pub mod Sources
 pub mod State
 pub mod Step
 pub mod Stepped

@@ -46,7 +46,8 @@ tunnelled c bytes = do
   let who : Sender = record { softwire = tunnel.softwire; owner = owner }
   Ok (who, inner)
 
--- the datagram in it, which goes to the public side as it is: it isn't put together before, nor cut there
+-- The datagram in it, whether it goes to the public side or turns back to a subscriber: it isn't put together before, nor cut
+-- for the public side.
 abbrev pub outward : Config → List ℕ → Result Datagram DropCause
 outward c inner = do
   packet ← plain_ip4 inner
@@ -54,9 +55,9 @@ outward c inner = do
   require (has_route packet.0) NoRoute
   d ← datagram_of packet
   let f = d.header.fields
-  require (not (is_ours c f.dst)) NoProtocol
-  require (not f.dont_cut || nat_le f.total c.public_mtu) TooBig
-  require (nat_le f.total c.public_mtu) NoProtocol
+  let fits = is_ours c f.dst || nat_le f.total c.public_mtu
+  require (fits || not f.dont_cut) TooBig
+  require fits NoProtocol
   Ok d
 
 abbrev pub outbound_of : Config → List ℕ → Result Outbound DropCause

@@ -53,6 +53,7 @@ pub record IsReady (header : Header) (payload : List ℕ) (proto : Proto) (ends 
   pub total : header.fields.total ≡ 20 + length payload
   pub short : header.fields.total ≤ 65535
   pub whole : header_len proto ≤ length payload
+  pub sound : transport_of proto payload ≡ Ok (transport_in proto payload)
   pub read : ends ≡ ends_of (transport_in proto payload)
 
 -- the transport behind a header of 20 bytes

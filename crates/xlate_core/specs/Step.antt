@@ -1,7 +1,6 @@
 -- One record: the clock, what expires, the record's own treatment, and the horizon.
-use Rattle.std.specs.Prelude.{ℕ, ◌+◌, Bool, ◌&&◌, ◌||◌, nat_le, nat_lt, List, [], ◌∷◌, ◌++◌, length, Option, Some, None, is_some, ok_or, ◌≡◌, slice_get, option_and_then}
-use Rattle.std.specs.Prelude.{Result, Ok, Err}
-use Rattle.std.specs.Prelude.{if◌then◌else◌}
+use Rattle.std.specs.Prelude.{ℕ, Bool, ◌&&◌, ◌||◌, nat_lt, List, [], ◌∷◌, ◌++◌, length, Option, Some, None, is_some}
+use Rattle.std.specs.Prelude.{true, false, Result, Ok, Err, if◌then◌else◌}
 use Rattle.std.specs.List.{list_any}
 use Rattle.aftr_base.specs.Attempt.{◌>>=◌, ◌>>◌, require}
 use Rattle.aftr_base.specs.Value.{moment}
@@ -14,29 +13,20 @@ use Rattle.aftr_base.specs.declared.event.EventKind.TheVariants.{Softwire, Publi
 use Rattle.aftr_base.specs.declared.event.LogEvent.{LogEvent}
 use Rattle.aftr_base.specs.declared.event.LogEvent.TheVariants.{Horizon}
 use Rattle.aftr_base.specs.declared.event.DropCause.{DropCause}
-use Rattle.aftr_base.specs.declared.event.DropCause.TheVariants.{Settling, Snapped as SnappedCause, BadPacket, NoProtocol, NoMapping, Filtered}
+use Rattle.aftr_base.specs.declared.event.DropCause.TheVariants.{Settling, Snapped as SnappedCause, BadPacket, NoProtocol}
 use Rattle.aftr_base.specs.declared.event.DropCause.TheVariants.{BadChange}
-use Rattle.wire_l4.specs.Places.{proto_of}
 use Rattle.softwire.specs.Tunnel.{tunnel_packet}
 use Rattle.nat_mapping.specs.Rows.{Mapping}
 use Rattle.xlate_core.specs.declared.step_out.Item.{Item}
 use Rattle.xlate_core.specs.declared.grant.Grant.{Grant}
-use Rattle.nat_filter.specs.Admits.{admits}
-use Rattle.nat_mapping.specs.declared.row.Peer.{Peer}
-use Rattle.nat_mapping.specs.declared.table.RowId.{RowId}
-use Rattle.nat_mapping.specs.Rows.{row_of}
-use Rattle.cfg_text.specs.declared.config.Config.{Config}
-use Rattle.cfg_text.specs.Accepted.{by_address}
-use Rattle.xlate_core.specs.Endpoints.{inbound_peer, state_inbound}
-use Rattle.xlate_core.specs.Rows.{find_in, touched}
-use Rattle.xlate_core.specs.State.{State, Step, is_past_horizon, reach_of}
 use Rattle.xlate_core.specs.declared.grant.Flow.{Flow}
-use Rattle.xlate_core.specs.Datagram.{Datagram, datagram_bytes, flags_of, place_on, key_of, inner_place, translated}
+use Rattle.xlate_core.specs.Arrivals.{arrival_of, receiver_of, rows_inbound}
+use Rattle.xlate_core.specs.State.{State, Step, is_ours, is_past_horizon, reach_of}
+use Rattle.xlate_core.specs.Datagram.{Datagram, datagram_bytes, flags_of, place_on, key_of, hairpinned, inner_place, translated}
 use Rattle.xlate_core.specs.Outbound.{Outbound, outbound_of}
 use Rattle.xlate_core.specs.Inbound.{inbound_of}
-use Rattle.xlate_core.specs.Grant.{granted, after_grant, opening_events}
+use Rattle.xlate_core.specs.Grant.{granted, granted_only, after_grant, opening_events}
 use Rattle.xlate_core.specs.Expiry.{at_moment}
-use Rattle.std.specs.Prelude.{true, false}
 
 abbrev pub quiet : State → Step
 quiet s = record { state = s; items = []; closings = []; openings = []; drop = None }
@@ -80,34 +70,63 @@ sent_out s got g = record {
   drop = None;
 }
 
+-- ---- hairpins: from a subscriber to another one, or to itself, through the pool (RFC 4787 6)
+
+-- the datagram as it would leave, which then comes in
+abbrev pub turned : Outbound → Grant → Datagram
+turned got g = translated true g.place got.datagram
+
+-- the datagram as it goes to the softwire of its receiver, with its TOS as the traffic class (RFC 2473 6.4)
+abbrev pub hairpin_bytes : State → Outbound → Grant → Mapping → List ℕ
+hairpin_bytes s got g row =
+    let d = got.datagram in
+    tunnel_packet s.config.aftr row.key.softwire d.header.fields.tos 4 (datagram_bytes (hairpinned g.place (inner_place row.key) d))
+
+-- It goes out and then comes in: first the sender's mapping is used, and then the receiver's, which may be the same.
+abbrev pub sent_back : State → Outbound → Grant → Mapping → Step
+sent_back s got g row =
+    let kept = after_grant (flow_of got) g s in record {
+      state = record kept { rows = rows_inbound kept (arrival_of (turned got g)) };
+      items = item s SoftwireSide (Some got.who.owner) (hairpin_bytes s got g row) ∷ [];
+      closings = [];
+      openings = opening_events s g;
+      drop = None;
+    }
+
+-- No mapping receives it: what was granted stays.
+abbrev pub held_back : State → Outbound → Grant → DropCause → Step
+held_back s got g cause = record {
+  state = granted_only (flow_of got) g s;
+  items = [];
+  closings = [];
+  openings = opening_events s g;
+  drop = Some cause;
+}
+
+abbrev pub hairpin_step : State → Outbound → Grant → Step
+hairpin_step s got g =
+    elim (receiver_of (granted_only (flow_of got) g s) (arrival_of (turned got g))) [
+      | Err cause ↦ held_back s got g cause
+      | Ok row ↦ sent_back s got g row
+    ]
+
+abbrev pub turns_back : State → Outbound → Bool
+turns_back s got = is_ours s.config got.datagram.header.fields.dst
+
+abbrev pub forwarding_step : State → Outbound → Grant → Step
+forwarding_step s got g = if turns_back s got then hairpin_step s got g else sent_out s got g
+
 abbrev pub outbound_step : State → List ℕ → Step
-outbound_step s bytes = elim (admitted_outbound s bytes) [ Err cause ↦ dropped s cause | Ok found ↦ sent_out s found.0 found.1 ]
+outbound_step s bytes = elim (admitted_outbound s bytes) [ Err cause ↦ dropped s cause | Ok found ↦ forwarding_step s found.0 found.1 ]
 
 -- ---- inbound: from the public side to the softwire of the mapping at the destination
 
--- the peer whose state a segment changes
-abbrev pub moved_peer : Config → ℕ → Datagram → List Peer → Option Peer
-moved_peer c now d peers =
-    option_and_then (inbound_peer c now (place_on true d) (flags_of d.body)) (state_inbound (proto_of d.body) (place_on true d) peers)
-
--- A TCP segment moves the state of the peer that it comes from, and its deadline with it; nothing else does.
-abbrev pub rows_inbound : State → Datagram → Mapping → List Mapping
-rows_inbound s d row =
-    elim (moved_peer s.config s.clock d row.peers) [ None ↦ s.rows | Some p ↦ touched row.key p s.rows ]
-
--- where a row stands: its key is that of no other before it
-pub record StandsAt (id : RowId) (row : Mapping) (rows : List Mapping) : Type 0 where
-  pub there : slice_get rows id.0 ≡ Some row
-  pub own : Some id ≡ row_of row.key rows
-
--- the datagram and its mapping, or the first rule that refuses the record (RFC 4787 5); a packet isn't cut for the softwire
+-- the datagram and its mapping, or the first rule that refuses the record (RFC 4787 5)
 abbrev pub admitted_inbound : State → List ℕ → Result (Datagram × Mapping) DropCause
 admitted_inbound s bytes = do
   require (nat_lt s.floor s.clock) Settling
   d ← inbound_of s.config bytes
-  row ← ok_or (find_in (proto_of d.body) (place_on false d) s.rows) NoMapping
-  require (admits row d.header.fields.src (by_address s.config)) Filtered
-  require (nat_le (40 + d.header.fields.total) s.config.softwire_mtu) NoProtocol
+  row ← receiver_of s (arrival_of d)
   Ok (d, row)
 
 -- the datagram as it goes to the softwire of its mapping, with its TOS as the traffic class (RFC 2473 6.4)
@@ -116,7 +135,7 @@ delivered_bytes s d row =
     tunnel_packet s.config.aftr row.key.softwire d.header.fields.tos 4 (datagram_bytes (translated false (inner_place row.key) d))
 
 abbrev pub sent_in : State → Datagram → Mapping → Step
-sent_in s d row = record (quiet (record s { rows = rows_inbound s d row })) { items = item s SoftwireSide None (delivered_bytes s d row) ∷ [] }
+sent_in s d row = record (quiet (record s { rows = rows_inbound s (arrival_of d) })) { items = item s SoftwireSide None (delivered_bytes s d row) ∷ [] }
 
 abbrev pub inbound_step : State → List ℕ → Step
 inbound_step s bytes = elim (admitted_inbound s bytes) [ Err cause ↦ dropped s cause | Ok found ↦ sent_in s found.0 found.1 ]

@@ -1,7 +1,7 @@
 //! Which place a mapping gets, and what is kept of it (RFC 4787 4, RFC 6888 3).
 ghost use Rattle.std.specs.Prelude.{◌≡◌, ◌<◌, ◌-◌, ◌^◌, ◌++◌, None, Some, Ok, OnOk, IfSome, length, map, min, option_to_list, slice_get, take};
 ghost use Rattle.aftr_base.specs.Row.{block_event};
-ghost use Rattle.nat_mapping.specs.Rows.{Mapping, holding_of, mapping_of, row_of, searched};
+ghost use Rattle.nat_mapping.specs.Rows.{Mapping, holding_of, is_of, mapping_of, row_of, searched};
 ghost use Rattle.quota.specs.Limits.{may_block, may_map, may_peer};
 ghost use Rattle.xlate_core.specs.Endpoints.{outbound_peer};
 ghost use Rattle.xlate_core.specs.Grant.{after_grant, at_once, granted, kept_place, new_block, opening_events, peer_of, place_for, place_in, place_in_lease, usage_of, with_choice};
@@ -193,10 +193,10 @@ impl Core {
     }
 
     // makes or refreshes the flow's peer in the row of its key
-    fn refresh(&mut self, flow: &Flow, id: RowId) -> Result<(), NoMemory>
+    pub(crate) fn refresh(&mut self, flow: &Flow, id: RowId) -> Result<(), NoMemory>
         requires { Some id ≡ row_of flow.now.key self.old.rows }
         ensures { let s = self.old in OnOk result
-            (self.new ≡ record s { rows = touched flow.now.key (peer_of s flow.now) s.rows }) }
+            (self.new ≡ record s { rows = touched (is_of flow.now.key) (peer_of s flow.now) s.rows }) }
     {
         let known = state_among(flow.key.proto, flow.remote, &self.table.row(id).peers);
         let peer = self.peer_of(flow, known);
@@ -206,7 +206,7 @@ impl Core {
     }
 
     // adds a row with its first peer, and the lease that opens for it
-    fn add_row(&mut self, flow: &Flow, grant: &Grant) -> Result<(), NoMemory>
+    pub(crate) fn add_row(&mut self, flow: &Flow, grant: &Grant) -> Result<(), NoMemory>
         requires row { None ≡ row_of flow.now.key self.old.rows }
         requires grant { granted self.old flow.now ≡ Ok grant.now }
         ensures { OnOk result (self.new ≡ after_grant flow.now grant.now self.old) }

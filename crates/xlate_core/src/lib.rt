@@ -1,9 +1,11 @@
 //! The translator: events to packets.
 #![tactic(auto)]
 
+mod arrival;
 mod endpoints;
 mod expiry;
 mod grant;
+mod hairpin;
 mod horizon;
 mod inbound;
 mod laws;

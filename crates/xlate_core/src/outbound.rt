@@ -3,7 +3,8 @@ ghost use Rattle.std.specs.Prelude.{◌≡◌, Ok, Err, None, IfOk, IfErr, OnOk}
 ghost use Rattle.xlate_core.specs.Datagram.{key_of};
 ghost use Rattle.xlate_core.specs.Outbound.{drop_for, carried_to, inner_of, tunnelled, outward, outbound_of};
 ghost use Rattle.nat_mapping.specs.Rows.{row_of};
-ghost use Rattle.xlate_core.specs.Step.{admitted_outbound, flow_of, mapped, outbound_step, sent_out, with_horizon};
+ghost use Rattle.xlate_core.specs.Step.{admitted_outbound, flow_of, forwarding_step, mapped, outbound_step, sent_out, with_horizon};
+ghost use Rattle.xlate_core.specs.State.{is_ours};
 ghost use Rattle.xlate_core.specs.Stepped.{HasStepped};
 ghost use Rattle.wire_ip6.specs.Chain.{chain_in};
 
@@ -88,7 +89,7 @@ fn tunnelled<'a>(config: &Config, bytes: &'a [u8]) -> Result<(Sender, &'a [u8]),
     Ok((who, inner))
 }
 
-// the datagram in it, which goes to the public side as it is
+// the datagram in it, whether it goes to the public side or turns back to a subscriber
 fn outward<'a>(config: &Config, inner: &'a [u8]) -> Result<Datagram<'a>, DropCause>
     ensures { result ≡ outward config.now inner.now }
 {
@@ -97,12 +98,9 @@ fn outward<'a>(config: &Config, inner: &'a [u8]) -> Result<Datagram<'a>, DropCau
     require(has_route(&packet), DropCause::NoRoute)?;
     let datagram = datagram_of(packet)?;
     let fields = datagram.fields();
-    require(!is_ours(config, fields.dst), DropCause::NoProtocol)?;
-    require(
-        !fields.dont_cut || fields.total <= config.public_mtu,
-        DropCause::TooBig,
-    )?;
-    require(fields.total <= config.public_mtu, DropCause::NoProtocol)?;
+    let fits = is_ours(config, fields.dst) || fields.total <= config.public_mtu;
+    require(fits || !fields.dont_cut, DropCause::TooBig)?;
+    require(fits, DropCause::NoProtocol)?;
     Ok(datagram)
 }
 
@@ -115,14 +113,21 @@ fn outbound_of<'a>(config: &Config, bytes: &'a [u8]) -> Result<Outbound<'a>, Dro
 }
 
 impl<'a> Outbound<'a> {
-    fn datagram(&self) -> &Datagram<'a>
+    pub(crate) fn datagram(&self) -> &Datagram<'a>
         ensures { result.now ≡ self.now.datagram }
     {
         &self.datagram
     }
 
-    // what a place is asked for
-    fn flow(&self) -> Flow
+    // whether it goes to an address of the pool, and so back to a subscriber
+    fn turns_back(&self, config: &Config) -> bool
+        ensures { result ≡ is_ours config.now self.now.datagram.header.fields.dst }
+    {
+        is_ours(config, self.datagram.fields().dst)
+    }
+
+    /// What a place is asked for.
+    pub(crate) fn flow(&self) -> Flow
         ensures { result ≡ flow_of self.now }
     {
         let source = self.datagram.place(true);
@@ -140,17 +145,17 @@ impl<'a> Outbound<'a> {
     }
 }
 
-// a datagram that goes out, where the row of its key stands, if it has one, and the place that it gets
+/// A datagram that goes out, where the row of its key stands, if it has one, and the place that it gets.
 #[derive(Debug, Drop)]
-struct Admitted<'a> {
-    got: Outbound<'a>,
-    row: Option<RowId>,
-    grant: Grant,
+pub(crate) struct Admitted<'a> {
+    pub(crate) got: Outbound<'a>,
+    pub(crate) row: Option<RowId>,
+    pub(crate) grant: Grant,
 }
 
 impl Core {
-    /// A record from the softwire side: its datagram goes out from the place of its mapping, which is made or refreshed.
-    /// The answer is the first rule that refuses it.
+    /// A record from the softwire side: its datagram goes out from the place of its mapping, which is made or refreshed, to
+    /// the public side or back to a subscriber. The answer is the first rule that refuses it.
     pub(crate) fn step_outbound(
         &mut self,
         alloc: Global,
@@ -163,11 +168,29 @@ impl Core {
     {
         match self.admit_outbound(bytes) {
             Err(cause) => Ok(Some(cause)),
-            Ok(admitted) => {
-                self.send_out(alloc, &admitted, out)?;
-                Ok(None)
-            }
+            Ok(admitted) => self.forward(alloc, &admitted, out),
         }
+    }
+
+    // sends an admitted datagram on, if a subscriber that it turns back to receives it
+    fn forward(
+        &mut self,
+        alloc: Global,
+        admitted: &Admitted<'_>,
+        out: &mut StepOut,
+    ) -> Result<Option<DropCause>, NoMemory>
+        requires row { let got = admitted.now.got in
+            admitted.now.row ≡ row_of (key_of got.who.softwire got.datagram) self.old.rows }
+        requires grant { mapped self.old admitted.now.got ≡ Ok admitted.now.grant }
+        ensures { IfOk result
+            (λ cause. HasStepped
+            (with_horizon (forwarding_step self.old admitted.now.got admitted.now.grant)) out.old self.new out.new cause) }
+    {
+        if admitted.got.turns_back(&self.config) {
+            return self.turn_back(alloc, admitted, out);
+        }
+        self.send_out(alloc, admitted, out)?;
+        Ok(None)
     }
 
     // the rules in their order

@@ -1,17 +1,19 @@
 //! What every packet is asked, whichever way it goes, and how it goes on (RFC 3022 4, RFC 4787 4).
-ghost use Rattle.std.specs.Prelude.{◌≡◌, ◌≤◌, ◌+◌, ◌++◌, [], length, take, Err, IfErr, IfOk, Ok};
+ghost use Rattle.std.specs.Prelude.{◌≡◌, ◌≤◌, ◌+◌, ◌++◌, [], drop, length, take, true, false, Err, IfErr, IfOk, Ok};
 ghost use Rattle.std.specs.List.{list_any};
 ghost use Rattle.aftr_base.specs.Attempt.{refused_as, require};
 ghost use Rattle.aftr_base.specs.Plan.{tunnel_prefix};
 ghost use Rattle.aftr_base.specs.Value.{is_under4};
 ghost use Rattle.aftr_base.specs.declared.event.DropCause.TheVariants.{BadPacket};
 ghost use Rattle.aftr_base.specs.declared.value.Proto.TheVariants.{Icmp, Tcp, Udp};
-ghost use Rattle.wire_l4.specs.Grammar.{header_len, transport_bytes, transport_in, transport_of};
+ghost use Rattle.wire_l4.specs.Grammar.{Transport, header_len, transport_bytes, transport_in, transport_of};
 ghost use Rattle.wire_l4.specs.Places.{port_at, proto_of, replaced};
-ghost use Rattle.xlate_core.specs.Datagram.{datagram_bytes, flags_of, place_on, translated};
+ghost use Rattle.xlate_core.specs.Arrivals.{arrival_of};
+ghost use Rattle.xlate_core.specs.Datagram.{datagram_bytes, flags_of, hairpinned, place_on, translated};
 ghost use Rattle.xlate_core.specs.Packet.{datagram_of, ends_of, has_route, is_routable, plain_ip4, proto_from, transport_behind};
 ghost use Rattle.xlate_core.specs.State.{is_ours};
 
+use crate::arrival::Arrival;
 use aftr_base::{DropCause, Ext, Ip4, NoMemory, Prefix4, Proto, u16_in};
 use arrayvec::ArrayVec;
 use cfg_text::Config;
@@ -246,6 +248,33 @@ impl<'a> Datagram<'a> {
         }
     }
 
+    /// What it says of itself where it comes in.
+    pub(crate) fn arrival(&self) -> Arrival
+        ensures { result ≡ arrival_of self.now }
+    {
+        Arrival {
+            proto: self.proto,
+            from: self.place(true),
+            to: self.place(false),
+            total: self.packet.fields().total,
+            flags: self.ends.flags,
+        }
+    }
+
+    /// What it says of itself where it comes in after it went out from this place. An ICMP query has the place's identifier
+    /// on both sides then (RFC 5508 section 3.1).
+    pub(crate) fn arrival_from(&self, src: Ext) -> Arrival
+        ensures { result ≡ arrival_of (translated true src self.now) }
+    {
+        let mut arrival = self.arrival();
+        arrival.from = src;
+        arrival.to.port = match self.proto {
+            Proto::Icmp => src.port,
+            Proto::Udp | Proto::Tcp => arrival.to.port,
+        };
+        arrival
+    }
+
     /// The datagram as it goes on, with the place on one side replaced: outbound its source, inbound its destination. Its
     /// TTL is lower by one, and its checksums are updated and not computed anew.
     pub(crate) fn translated(
@@ -265,6 +294,21 @@ impl<'a> Datagram<'a> {
         set_behind(self.proto, &mut bytes, source, self.place(source), new);
         Ok(bytes)
     }
+
+    /// The datagram as it turns back to a subscriber (hairpinning, RFC 4787 section 6): it goes out from `src` and then comes in
+    /// to `dst`. Its TTL is lower by one in all, and its checksums are updated and not computed anew.
+    pub(crate) fn hairpinned(&self, alloc: Global, src: Ext, dst: Ext) -> Result<Vec<u8>, NoMemory>
+        ensures bytes { IfOk result
+            (λ v. v.items ≡ datagram_bytes (hairpinned src dst self.now)) }
+        ensures total { IfOk result (λ v. length v.items ≡ self.now.header.fields.total) }
+    {
+        let mut header = ArrayVec::new();
+        self.packet
+            .write_hairpinned(src.addr, dst.addr, &mut header);
+        let mut bytes = joined(alloc, header.as_slice(), self.packet.payload())?;
+        set_both_behind(&mut bytes, self.place(true), &self.arrival_from(src), dst);
+        Ok(bytes)
+    }
 }
 
 // a packet of these parts
@@ -281,8 +325,26 @@ fn joined(alloc: Global, header: &[u8], payload: &[u8]) -> Result<Vec<u8>, NoMem
 fn set_behind(proto: Proto, bytes: &mut [u8], source: bool, old: Ext, new: Ext)
     requires whole { 20 + header_len proto ≤ length bytes.old }
     requires there { port_at source (transport_behind proto bytes.old) ≡ old.port }
-    ensures { bytes.new ≡ take 20 bytes.old
+    ensures value { bytes.new ≡ take 20 bytes.old
         ++ transport_bytes (replaced source old new (transport_behind proto bytes.old)) }
+    ensures reads_back { (t : Transport) → transport_of proto (drop 20 bytes.old) ≡ Ok t
+        → transport_of proto (drop 20 bytes.new) ≡ Ok (replaced source old new t) }
 {
     set_place(proto, &mut bytes[20..], source, old, new);
+}
+
+// Puts the place where a datagram arrives from where `old` stands, and then `dst` where it arrives, in a transport behind the
+// 20 bytes of a header.
+fn set_both_behind(bytes: &mut [u8], old: Ext, arrival: &Arrival, dst: Ext)
+    requires whole { 20 + header_len arrival.now.proto ≤ length bytes.old }
+    requires read { let a = arrival.now in
+        transport_of a.proto (drop 20 bytes.old) ≡ Ok (transport_behind a.proto bytes.old) }
+    requires source { port_at true (transport_behind arrival.now.proto bytes.old) ≡ old.port }
+    requires destination { let a = arrival.now in
+        port_at false (replaced true old a.from (transport_behind a.proto bytes.old)) ≡ a.to.port }
+    ensures { let a = arrival.now in bytes.new ≡ take 20 bytes.old
+        ++ transport_bytes (replaced false a.to dst (replaced true old a.from (transport_behind a.proto bytes.old))) }
+{
+    set_behind(arrival.proto, bytes, true, old, arrival.from);
+    set_behind(arrival.proto, bytes, false, arrival.to, dst);
 }

@@ -22,5 +22,5 @@ returns-clause-sound c = λ sound.
       dst = omega (arith, c.fields-old.type_inv);
     } in
     let is = plain_header h (subst AreFields c.fields-old.ensures.value fields) (omega (arith, c.sum.ensures, c.sum.type_inv))
-      c.requires.plain in
+    c.requires.plain in
     ap sum16 (returns-clause-bytes c) ∙ sound_hairpinned c.args.src c.args.dst h is (omega arith) (omega arith) sound

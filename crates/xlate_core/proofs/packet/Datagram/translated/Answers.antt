@@ -1,18 +1,11 @@
 use Rattle.std.proofs.Common.{◌≡◌, ◌++◌, ℕ, List, length, take, drop, sym, ap, ◌∙◌, subst, arith}
 use Rattle.aftr_base.specs.declared.value.Ext.{Ext}
-use Rattle.wire_ip4.specs.Grammar.{Header, header_bytes}
 use Rattle.wire_ip4.specs.Forwarded.{forwarded}
 use Rattle.wire_l4.specs.Grammar.{Transport, transport_in}
 use Rattle.wire_l4.specs.Places.{port_at}
 use Rattle.xlate_core.specs.Datagram.{Datagram, datagram_bytes, place_on, translated}
-use Rattle.xlate_core.proofs.Datagrams.{whole_len, transport_there, written, all_written}
+use Rattle.xlate_core.proofs.Datagrams.{made_of, whole_len, transport_there, written, all_written}
 use Rattle.xlate_core.proofs.packet.Datagram.translated.Goals as goal
-
--- the header and the payload that the vector was made of
-made_of : (h : Header) (payload made joined header part : List ℕ) → made ≡ joined → joined ≡ header ++ part → header ≡ header_bytes h
-    → part ≡ payload
-    → made ≡ header_bytes h ++ payload
-made_of h payload made joined header part a b c d = a ∙ b ∙ ap (λ (l : List ℕ). l ++ part) c ∙ ap (λ (l : List ℕ). header_bytes h ++ l) d
 
 pub set_behind-requires-clause-whole : goal.set_behind-requires-clause-whole
 set_behind-requires-clause-whole c =
@@ -44,7 +37,7 @@ returns-clause-bytes c =
     (sym c.deref_mut.ensures.value)
     ∙ written h c.self.inside.packet.1 c.deref_mut.result.now c.set_behind.new.bytes c.in_ok-bytes.bytes.len c.self.inside.proto
     c.args.source c.place.result (place_on c.args.source d) c.args.new
-    c.self.invariant.bare so (c.place.ensures ∙ ap (place_on c.args.source) (sym c.self.view_is)) c.set_behind.ensures len)
+    c.self.invariant.bare so (c.place.ensures ∙ ap (place_on c.args.source) (sym c.self.view_is)) c.set_behind.ensures.value len)
 
 pub returns-clause-total : goal.returns-clause-total
 returns-clause-total c =

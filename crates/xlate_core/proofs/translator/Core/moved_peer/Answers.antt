@@ -8,5 +8,5 @@ pub returns-clause-known : goal.returns-clause-known
 returns-clause-known c =
     let peers = c.args.peers.now in
     subst (λ (o : Option Peer). IfSome o (λ (p : Peer). has_peer p peers ≡ true)) (sym c.inbound_peer.ensures)
-    (moved_known c.self.inside.config c.self.inside.clock.0 c.proto.result c.place-remote.result c.flags.result c.in_ok-state.state peers
+    (moved_known c.self.inside.config c.self.inside.clock.0 c.args.arrival.now.proto c.args.arrival.now.from c.args.arrival.now.flags c.in_ok-state.state peers
     (sym c.state_inbound.ensures ∙ c.in_ok-state.was))
