@@ -1,5 +1,5 @@
 -- What a restart hands on is what a run may start from.
-use Rattle.std.proofs.Common.{◌≡◌, inr, ℕ, ◌+◌, ◌≤◌, max, Bool, true, false, not, ◌&&◌, List, [], ◌∷◌, nat_le, is_none, Option, Some}
+use Rattle.std.proofs.Common.{◌≡◌, inr, ℕ, ◌+◌, ◌≤◌, Bool, true, false, not, ◌&&◌, List, [], ◌∷◌, nat_le, is_none, Option, Some}
 use Rattle.std.proofs.Common.{None, Result, Ok, refl, sym, ap, ◌∙◌, subst, arith}
 use Rattle.std.specs.List.{AllByRecursion, list_all}
 use Rattle.std.proofs.lemmas.Bool.{and_from, le-leb}
@@ -25,7 +25,7 @@ use Rattle.xlate_core.specs.Run.{start, told_of}
 use Rattle.aftr_engine.specs.declared.session.Session.{Session}
 use Rattle.aftr_engine.specs.session.Begun.{HasBegun, config_of, told_at}
 use Rattle.egress_gate.specs.declared.tally.Tally.{Tally}
-use Rattle.aftr_engine.specs.engine.Running.{KeepsRows}
+use Rattle.aftr_engine.specs.engine.Running.{KeepsRoom, KeepsRows}
 use Rattle.aftr_engine.specs.session.Stops.{AccountsFor}
 use Rattle.aftr_engine.proofs.Endings.{HasEnded, HasOpened}
 use Rattle.aftr_base.specs.declared.outcome.Status.{Status}
@@ -189,13 +189,25 @@ rows_kept {ready = ready} has = inr (record {
   part = subst (IsPartlyClosed has.was.told) (sym has.told) has.closed;
 })
 
+same_log : {l m : Log} → (let r : Result Log ℕ = Ok l in r ≡ Ok m) → l ≡ m
+same_log is = cc
+
+-- nor has the log more bytes that count than before, or than the limit
+pub room_recovered : {limit : ℕ} {before now : List ℕ} {ready : Ready} → HasRecovered limit before now ready → KeepsRoom limit before now
+room_recovered has = λ was log was_is log_is.
+    let before = ap (λ (l : Log). l.tail) (same_log (sym has.was_log ∙ was_is)) in
+    let after = ap (λ (l : Log). l.tail) (same_log (sym has.log ∙ log_is)) in
+    omega (arith, has.room, before, after)
+
+pub room_same : (limit : ℕ) (file : List ℕ) → KeepsRoom limit file file
+room_same limit file = λ was log was_is log_is.
+    let same = ap (λ (l : Log). l.tail) (same_log (sym was_is ∙ log_is)) in
+    omega (arith, same)
+
 pub opened : {c : Config} {before now : Story} {ready : Ready} → HasRecovered c.log_limit (content before) (content now) ready
     → sent now ≡ sent before → HasOpened c before now ready.told (ready.journal.at + 1)
 opened has unsent = record {
   onto = record { was = has.was.told; tells = (has.was.tail, has.was_log); closed = has.told };
-  room = λ was is. subst (λ (log : Log). _ ≤ max log.tail _) (same_log (sym has.was_log ∙ is)) has.room;
+  room = λ was is. room_recovered has was _ is has.log;
   unsent = unsent;
 }
-  where
-    same_log : {l m : Log} → (let r : Result Log ℕ = Ok l in r ≡ Ok m) → l ≡ m
-    same_log is = cc

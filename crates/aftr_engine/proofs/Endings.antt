@@ -31,7 +31,7 @@ use Rattle.aftr_engine.specs.session.Begun.{StopsFor, IsAtRecordsEnd, TalliesAs}
 use Rattle.aftr_engine.specs.session.Fronts.{HasCome, HasDoneFirst, HasTreatedFirst}
 use Rattle.aftr_engine.specs.engine.Texts.{IsListed, answer_text, text_of}
 use Rattle.aftr_engine.specs.engine.Reported.{IsKept, IsText, IsReported, IsNoCommand, PrintsFault}
-use Rattle.aftr_engine.specs.engine.Running.{BeginsFrom, LeavesRows, RefusesConfig, RefusesFor, IsWhole, RanAs, no_source}
+use Rattle.aftr_engine.specs.engine.Running.{BeginsFrom, KeepsRoom, LeavesRows, RefusesConfig, RefusesFor, IsWhole, RanAs, no_source}
 use Rattle.lease_log.specs.Log.{Log, log_of}
 use Rattle.recovery.specs.Closings.{recovered}
 use Rattle.aftr_engine.specs.engine.Asking.{AnswersFor, AnsweredAs, answer_to}
@@ -79,8 +79,10 @@ EndsBy HasDone ended = HasDone ended.status (text_of ended.tally ended.answer en
 pub refused : {c : Config} {config input : SourceUse} {plant : PlantUse} (ended : Ended) {status : Status}
     → ended.status ≡ status → ended.tally.drops.0 ≡ drop_counts [] → RefusesFor c config plant status
     → (input.tells → input.left ≡ input.bytes) → (plant.tells → sent plant.after ≡ sent plant.before)
-    → (plant.tells → LeavesRows plant status) → EndsBy (RanAs c config input plant ended.tally.drops.0) ended
-refused {c} {config} {input} {plant} ended {status} is none why unread unsent rows =
+    → (plant.tells → LeavesRows plant status)
+    → (plant.tells → status ≢ LogFault → KeepsRoom c.log_limit (content plant.before) (content plant.after))
+    → EndsBy (RanAs c config input plant ended.tally.drops.0) ended
+refused {c} {config} {input} {plant} ended {status} is none why unread unsent rows room =
     let reason : RefusesFor c config plant ended.status = subst (RefusesFor c config plant) (sym is) why in
     record {
       did = inl (record {
@@ -88,6 +90,7 @@ refused {c} {config} {input} {plant} ended {status} is none why unread unsent ro
         unread = unread;
         unsent = unsent;
         rows = λ tells. subst (LeavesRows plant) (sym is) (rows tells);
+        room = λ tells kept. room tells (λ fault. kept (is ∙ fault));
         undropped = none;
       });
       says = text_is ended.tally ended.answer ended.status
@@ -261,6 +264,7 @@ unset {config = config} {plant = plant} {status = status} none is = record {
       unread = r.unread;
       unsent = r.unsent;
       rows = r.rows;
+      room = r.room;
       undropped = r.undropped;
     })
     | inr r ↦ inr (record {

@@ -26,7 +26,7 @@ ghost use Rattle.plant_io.specs.Uses.{Writes, source_use, plant_use, sink_use};
 ghost use Rattle.aftr_engine.specs.session.EndToEnd.{front_run, run_of, told_behind};
 ghost use Rattle.aftr_engine.specs.session.Stops.{LeavesLog};
 ghost use Rattle.aftr_engine.specs.engine.Reported.{IsKept, IsNoCommand, IsPrinted, IsReported, PrintsFault};
-ghost use Rattle.aftr_engine.specs.engine.Running.{LeavesRows, RanAs, RefusesConfig, RefusesLog, at_first, first_use, no_source};
+ghost use Rattle.aftr_engine.specs.engine.Running.{KeepsRoom, LeavesRows, RanAs, RefusesConfig, RefusesLog, at_first, first_use, no_source};
 ghost use Rattle.aftr_engine.specs.engine.Asking.{AnsweredAs, AnswersFor, answer_to};
 ghost use Rattle.aftr_engine.specs.engine.Making.{MadeAs};
 ghost use Rattle.aftr_engine.specs.engine.Texts.{IsBadText, IsListed, answer_text, text_of};
@@ -393,6 +393,8 @@ fn ready_log<P: Plant>(alloc: Global, plant: &mut P, limit: u64) -> Result<Ready
     ensures refused { IfErr result
         (RefusesLog limit (plant_use ⟦<P as Plant>⟧ plant.old plant.new)) }
     ensures rows { P.tells → IfErr result (LeavesRows (plant_use ⟦<P as Plant>⟧ plant.old plant.new)) }
+    ensures room { P.tells → IfErr result (λ status. status ≢ Status.LogFault →
+        KeepsRoom limit (content (P.story plant.old)) (content (P.story plant.new))) }
     ensures unsent { P.tells → sent (P.story plant.new) ≡ sent (P.story plant.old) }
     ensures stops { P.tells → StopsLeave (P.story plant.old) (P.story plant.new)
         (RecoverLeaves (P.story plant.old)) }

@@ -1,5 +1,5 @@
 -- How many closings there are: no more than rows, and each frame takes its part of them.
-use Rattle.std.proofs.Common.{◌≡◌, ℕ, ◌+◌, ◌≤◌, Bool, true, false, cond, List, [], ◌∷◌, ◌++◌, length, map, filter, drop, ap, arith, length-append}
+use Rattle.std.proofs.Common.{◌≡◌, ℕ, ◌+◌, ◌≤◌, Bool, true, false, cond, List, [], ◌∷◌, length, filter, drop, ap, arith, length-append}
 use Rattle.std.specs.Prelude.{None}
 use Rattle.std.specs.List.{list_any}
 use Rattle.std.proofs.lemmas.List.{length-map}
@@ -58,7 +58,8 @@ gathered {horizon} {leases} {was} {now} {passed} h =
     )
 
 -- at first all of them are left
-pub first_left : (t : Told) (was : Batch) {now : Batch} {leases : List LeaseRow} → now ≡ record was { events = plan_closings t } → leases ≡ t.leases
+pub first_left : (t : Told) (was : Batch) {now : Batch} {leases : List LeaseRow}
+    → now ≡ record was { events = plan_closings t } → leases ≡ t.leases
     → t.count + (length now.events + length (lease_closings t.horizon leases)) ≡ t.count + length (closings_of t)
 first_left t was {now} {leases} took all =
     omega (

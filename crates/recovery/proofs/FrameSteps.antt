@@ -235,6 +235,7 @@ module _ {was : Log} {limit tail frames : ℕ} {before now : Story} {batch : Bat
         asks = refused.1 ∙ ap (λ (b : List ℕ). length b) body;
         bound = refused.2;
         full = omega (arith, refused.0, refused.1, refused.2, refused.3);
+        room = l.room;
       }
 
   -- ---- where nothing is left

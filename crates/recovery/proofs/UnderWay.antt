@@ -1,5 +1,5 @@
 -- The frames of closings, one after another, as the loop that commits them goes.
-use Rattle.std.proofs.Common.{◌≡◌, ◌≢◌, inl, inr, ℕ, ◌+◌, ◌<◌, ◌≤◌, List, [], ◌++◌, length, drop, Ok, Err}
+use Rattle.std.proofs.Common.{◌≡◌, ◌≢◌, inl, inr, ℕ, ◌+◌, ◌*◌, ◌<◌, ◌≤◌, List, [], ◌++◌, length, drop, Ok, Err}
 use Rattle.std.proofs.Common.{sym, ap, ◌∙◌, subst, arith, length-append}
 use Rattle.std.proofs.lemmas.Bool.{cases_lt}
 use Rattle.std.proofs.lemmas.List.{length-drop}
@@ -10,7 +10,7 @@ use Rattle.plant_io.specs.Stops.{StopsLeave}
 use Rattle.lease_log.specs.Batch.{Batch, batch_body, empty_batch, AppendLeaves, CanAppend, HasAppended}
 use Rattle.lease_log.specs.Log.{Log, log_of}
 use Rattle.lease_log.specs.Sound.{IsSound}
-use Rattle.recovery.specs.Answers.{HasNoRoom, RecoversTo}
+use Rattle.recovery.specs.Answers.{HasNoRoom, IsClosedSoFar, RecoversTo}
 use Rattle.recovery.specs.Closings.{lease_closings, plan_closings}
 use Rattle.recovery.specs.Frames.{CloseLeaves, HasClosed, HasGathered, IsRefusal}
 use Rattle.recovery.specs.declared.RecoverBad.{RecoverBad}
@@ -39,6 +39,23 @@ first_under_way {was} {limit} {before} {empty} {first} {rest} is settled is_empt
       (sym (ap (λ (b : Batch). b.count) is_first ∙ ap (λ (b : Batch). b.count) is_empty))
       (logged_at_first was limit before (is t) (settled t));
 }
+
+-- between two frames
+pub way_so_far : {tells : Type 0} {was : Log} {limit : ℕ} {before now : Story} {tail : ℕ} {batch : Batch} {rest : List LeaseRow}
+    → (tells → log_of (content before) ≡ Ok was) → IsUnderWay tells was limit before now tail batch rest → tells
+    → IsClosedSoFar limit (content before) (content now)
+way_so_far {was = was} {tail = tail} is_log way t =
+    let l = way.logged t in
+    record {
+      closing = record {
+        was = was;
+        log = record { told = l.told; tail = tail };
+        was_log = is_log t;
+        is_log = l.log;
+        part = record { number = 1024 * way.frames; follows = l.follows };
+      };
+      room = l.room;
+    }
 
 module _ {tells : Type 0} {was : Log} {limit : ℕ} {before now : Story} {tail passed : ℕ} {batch taken : Batch} {rest : List LeaseRow}
     (is_log : tells → log_of (content before) ≡ Ok was) (sound : IsSound was.told)

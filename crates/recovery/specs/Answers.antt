@@ -28,7 +28,8 @@ pub record HasRecovered (limit : ℕ) (before now : List ℕ) (ready : Ready) : 
   pub log : log_of now ≡ Ok record { told = ready.told; tail = ready.journal.at + 1 }
   pub room : ready.journal.at + 1 ≤ max was.tail limit
 
--- the next frame of closings has no room: the first k are told, and the numbers are those of the next
+-- The next frame of closings has no room: the frames before it are told, and the log has no more bytes than before or than the
+-- limit; the numbers are those of the next.
 pub record HasNoRoom (most : ℕ) (before now : List ℕ) (tail need limit : ℕ) : Type 0 where
   pub was : Log
   pub log : Log
@@ -41,6 +42,12 @@ pub record HasNoRoom (most : ℕ) (before now : List ℕ) (tail need limit : ℕ
   pub asks : need ≡ length (frame_body was.told frames)
   pub bound : limit ≡ most
   pub full : limit < tail + need
+  pub room : log.tail ≤ max was.tail most
+
+-- a log of the rows that were told, some of them closed, with no more bytes than before or than the limit
+pub record IsClosedSoFar (limit : ℕ) (before now : List ℕ) : Type 0 where
+  pub closing : IsClosing before now
+  pub room : closing.log.tail ≤ max closing.was.tail limit
 
 -- no room means that the tail and what is needed are together over the limit
 abbrev pub IsLack : ℕ → RecoverBad → Type 0
@@ -55,4 +62,4 @@ RecoversTo limit before now (Ok ready) = HasRecovered limit before now ready
 RecoversTo limit before now (Err (Damaged offset)) = (log_of before ≡ Err offset) × (now ≡ before)
 RecoversTo limit before now (Err (Full tail need most)) = HasNoRoom limit before now tail need most
 RecoversTo limit before now (Err Failed) = Unit {0}
-RecoversTo limit before now (Err NoMemory) = (now ≡ before) ⊎ IsClosing before now
+RecoversTo limit before now (Err NoMemory) = (now ≡ before) ⊎ IsClosedSoFar limit before now

@@ -41,11 +41,12 @@ pub struct Ready {
 pub enum RecoverBad {
     /// The file is no log: damage at this offset, in bytes. Nothing was written.
     Damaged(u64),
-    /// The next frame of closings, of `need` bytes behind the tail, would pass the limit, all in bytes. The frames before it stand.
+    /// The next frame of closings, of `need` bytes behind the tail, would pass the limit, all in bytes. The frames before it stand, and
+    /// keep to the limit.
     Full { tail: u64, need: u64, limit: u64 },
     /// A call on the file failed, and the plant's count of disk faults rose. The frames committed before stand.
     Failed,
-    /// There was no memory. The frames committed before stand.
+    /// There was no memory. The frames committed before stand, and keep to the limit.
     NoMemory,
 }
 

@@ -40,6 +40,13 @@ first_use g before after = record {
   faults = record { before = at_first 0 g.faults before; after = at_first 0 g.faults after };
 }
 
+-- ---- the log
+
+-- The log has no more bytes that count than it had, or than the limit.
+abbrev pub KeepsRoom : ℕ → List ℕ → List ℕ → Type 0
+KeepsRoom limit before after =
+    (was now : Log) → log_of before ≡ Ok was → log_of after ≡ Ok now → now.tail ≤ max was.tail limit
+
 -- ---- before the records
 
 -- Why a configuration is refused: it has a byte, or it can't be looked at.
@@ -80,20 +87,17 @@ LeavesRows plant (LogFull tail need limit) = KeepsRows (content plant.before) (c
 LeavesRows plant NoMemory = KeepsRows (content plant.before) (content plant.after)
 LeavesRows plant other = content plant.after ≡ content plant.before
 
--- A refused run takes no byte of its input, sends nothing, leaves the log's rows, and drops nothing.
+-- A refused run takes no byte of its input, sends nothing, leaves the log's rows, and drops nothing. Unless the log failed, it has
+-- no more bytes that count than it had, or than the configuration lets it have.
 pub record IsRefused (c : Config) (config input : SourceUse) (plant : PlantUse) (drops : List ℕ) (status : Status) : Type 0 where
   pub reason : RefusesFor c config plant status
   pub unread : input.tells → input.left ≡ input.bytes
   pub unsent : plant.tells → sent plant.after ≡ sent plant.before
   pub rows : plant.tells → LeavesRows plant status
+  pub room : plant.tells → status ≢ LogFault → KeepsRoom c.log_limit (content plant.before) (content plant.after)
   pub undropped : drops ≡ drop_counts []
 
 -- ---- the records
-
--- The log has no more bytes that count than it had, or than the limit.
-abbrev pub KeepsRoom : ℕ → List ℕ → List ℕ → Type 0
-KeepsRoom limit before after =
-    (was now : Log) → log_of before ≡ Ok was → log_of after ≡ Ok now → now.tail ≤ max was.tail limit
 
 -- All records were treated: what was sent and dropped is what the translator's run over them sends and drops, and the log tells
 -- that run's rows and horizon.

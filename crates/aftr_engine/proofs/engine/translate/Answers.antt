@@ -5,7 +5,8 @@ use Rattle.plant_io.specs.Stops.{StopsLeave}
 use Rattle.xlate_core.specs.Valid.{IsStart}
 use Rattle.aftr_engine.specs.session.Stops.{AccountsFor}
 use Rattle.aftr_engine.specs.session.Begun.{tally_of}
-use Rattle.aftr_engine.proofs.Begins.{accounts_from, begins, closed, config_same, ended_from, opened, rows_kept, timely, told_same}
+use Rattle.aftr_engine.proofs.Begins.{accounts_from, begins, closed, config_same, ended_from, opened, room_recovered, rows_kept}
+use Rattle.aftr_engine.proofs.Begins.{timely, told_same}
 use Rattle.aftr_engine.proofs.Endings.{refused, ran}
 use Rattle.aftr_engine.proofs.LogStops.{closes, then_runs}
 use Rattle.aftr_engine.proofs.engine.translate.Goals as goal
@@ -13,7 +14,7 @@ use Rattle.aftr_engine.proofs.engine.translate.Goals as goal
 pub returns-in-Err-clause-ran : goal.returns-in-Err-clause-ran
 returns-in-Err-clause-ran g c =
     refused c.early.result c.early.ensures.status c.early.ensures.drops (inr ((λ _. refl), c.in-Err.ensures.refused))
-    (λ reads. refl) c.ready_log.ensures.unsent c.in-Err.ensures.rows
+    (λ reads. refl) c.ready_log.ensures.unsent c.in-Err.ensures.rows c.in-Err.ensures.room
 
 pub returns-in-Err-clause-stops : goal.returns-in-Err-clause-stops
 returns-in-Err-clause-stops g c = λ reads tells.
@@ -70,6 +71,7 @@ returns-clause-ran g c =
     refused c.early-in-Err-new.result c.early-in-Err-new.ensures.status c.early-in-Err-new.ensures.drops (inr ((λ _. refl), tt))
     (λ reads. refl)
     c.ready_log.ensures.unsent (λ tells. rows_kept (c.in-Ok.ensures.recovered tells))
+    (λ tells _. room_recovered (c.in-Ok.ensures.recovered tells))
 
 pub returns-clause-stops : goal.returns-clause-stops
 returns-clause-stops g c = λ reads tells.

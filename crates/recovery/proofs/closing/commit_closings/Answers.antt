@@ -1,10 +1,12 @@
-use Rattle.std.proofs.Common.{◌≡◌, ◌<◌, ◌≤◌, ◌+◌, List, length, refl, sym, ap, ◌∙◌, arith}
+use Rattle.std.proofs.Common.{◌≡◌, inr, ◌<◌, ◌≤◌, ◌+◌, List, length, refl, sym, ap, ◌∙◌, arith}
 use Rattle.aftr_base.specs.declared.row.LeaseRow.{LeaseRow}
 use Rattle.std.proofs.lemmas.List.{nil_from_length}
+use Rattle.std.proofs.lemmas.Result.{err_from_is_err_and}
 use Rattle.lease_log.specs.Batch.{Batch, batch_body}
 use Rattle.recovery.specs.Closings.{lease_closings}
 use Rattle.recovery.specs.Frames.{log_at_tail}
-use Rattle.recovery.proofs.UnderWay.{nothing_closed, first_under_way, way_append, way_closed, way_stopped, way_refused, way_on, way_smaller}
+use Rattle.recovery.proofs.UnderWay.{nothing_closed, first_under_way, way_append, way_closed, way_stopped, way_refused, way_on}
+use Rattle.recovery.proofs.UnderWay.{way_smaller, way_so_far}
 use Rattle.recovery.proofs.Counting.{few_closings, first_left, gathered, lack_of}
 use Rattle.recovery.proofs.closing.commit_closings.Goals as goal
 
@@ -21,6 +23,12 @@ loop-passed-init g c = record {
   later = omega arith;
   outlet = refl;
 }
+
+pub returns-in_err-passed-clause-refused : goal.returns-in_err-passed-clause-refused
+returns-in_err-passed-clause-refused g c = λ tells.
+    let left = c.from_residual-in_err-passed in
+    let no_memory = err_from_is_err_and left.result left.ensures.1 in
+    rw (no_memory.1, no_memory.2) (inr (way_so_far c.requires.tells c.loop-passed.invariant.way tells))
 
 pub returns-then-closings-eq0-clause-closed : goal.returns-then-closings-eq0-clause-closed
 returns-then-closings-eq0-clause-closed g c =
