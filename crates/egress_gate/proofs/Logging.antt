@@ -73,7 +73,7 @@ few_opened s e = by_way (λ (t : Step). HasFew 0 t.openings) s e.bytes e.kind (r
   delivers = λ d row by. few_none;
   forwards = λ got g by abroad. few_blocks true s.clock (option_to_list g.lease);
   turns = λ got g row by back. few_blocks true s.clock (option_to_list g.lease);
-  holds = λ got g cause by. few_blocks true s.clock (option_to_list g.lease);
+  holds = λ got g cause by refuses. few_blocks true s.clock (option_to_list g.lease);
 })
 
 few_logged : (s : State) (e : Event) → HasFew 1 (log_of (step s e))

@@ -1,5 +1,5 @@
 -- Whose packets they are, by what a log tells (RFC 6888 4).
-use Rattle.std.specs.Prelude.{◌≡◌, ◌≤◌, ℕ, List, [], ◌∷◌, All, IfSome}
+use Rattle.std.specs.Prelude.{◌≡◌, ◌≤◌, List, [], ◌∷◌, All, IfSome}
 use Rattle.aftr_base.specs.declared.told.Told.{Told}
 use Rattle.aftr_base.specs.declared.value.Subscriber.{Subscriber}
 use Rattle.xlate_core.specs.Sources.{source_of}

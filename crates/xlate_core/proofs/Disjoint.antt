@@ -103,7 +103,7 @@ disjoint_treated s bytes kind ok h = by_way (λ (t : Step). AreDisjoint t.state.
   delivers = λ d r by. h;
   forwards = λ got g by abroad. disjoint_grant (grant_out ok by) h;
   turns = λ got g row by turned. disjoint_grant (grant_out ok by) h;
-  holds = λ got g cause by. disjoint_grant (grant_out ok by) h;
+  holds = λ got g cause by refuses. disjoint_grant (grant_out ok by) h;
 })
 
 -- ---- a step and a run

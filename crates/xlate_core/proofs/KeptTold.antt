@@ -108,7 +108,7 @@ first_treated {told = told} s bytes kind ok h =
       delivers = λ d r by. h;
       forwards = λ got g by abroad. more got g by;
       turns = λ got g row by turned. more got g by;
-      holds = λ got g cause by. more got g by;
+      holds = λ got g cause by refuses. more got g by;
     })
 
 -- ---- a step and a run

@@ -8,6 +8,7 @@ pub mod Disjoint
 pub mod Holders
 pub mod IdleLeases
 pub mod KeptTold
+pub mod Lasting
 pub mod LeasesOver
 pub mod LogNumbers
 pub mod LogTells

@@ -66,7 +66,7 @@ opens_treated s bytes kind ok = by_way (Opens s) s bytes kind (record {
     leases = refl;
     new = grant_new (grant_out ok by);
   };
-  holds = λ got g cause by. record {
+  holds = λ got g cause by refuses. record {
     config = refl;
     clock = refl;
     closings = refl;

@@ -88,7 +88,7 @@ source_treated s bytes kind h = by_way (λ (t : Step). All (IsFromLease t.state.
   turns = λ got g row by turned.
       let sent = item s SoftwireSide (Some got.who.owner) (hairpin_bytes s got g row) in
       one_item (IsFromLease (sent_back s got g row).state.leases) sent (source_back row h by);
-  holds = λ got g cause by. All-nil (IsFromLease (held_back s got g cause).state.leases);
+  holds = λ got g cause by refuses. All-nil (IsFromLease (held_back s got g cause).state.leases);
 })
 
 pub source_step : (s : State) (e : Event) → IsReached s → All (IsFromLease (step s e).state.leases) (step s e).items
@@ -106,7 +106,7 @@ now_treated s bytes kind = by_way (λ (t : Step). All (IsAt t.state.clock) t.ite
   delivers = λ d row by. one_item (IsAt s.clock) _ refl;
   forwards = λ got g by abroad. one_item (IsAt s.clock) _ refl;
   turns = λ got g row by turned. one_item (IsAt s.clock) _ refl;
-  holds = λ got g cause by. All-nil (IsAt s.clock);
+  holds = λ got g cause by refuses. All-nil (IsAt s.clock);
 })
 
 pub now_step : (s : State) (e : Event) → All (IsAt (step s e).state.clock) (step s e).items

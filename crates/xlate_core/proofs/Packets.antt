@@ -61,7 +61,7 @@ short_treated s bytes kind ok = by_way (λ (t : Step). AreShort t.items) s bytes
   delivers = λ d row by. one_short _ (omega (arith, length_in by, (facts s.config ok).softwire_most));
   forwards = λ got g by abroad. one_short _ (omega (arith, length_out by abroad, (facts s.config ok).public_most));
   turns = λ got g row by turned. one_short _ (omega (arith, length_back by turned, (facts s.config ok).softwire_most));
-  holds = λ got g cause by. All-nil IsShortItem;
+  holds = λ got g cause by refuses. All-nil IsShortItem;
 })
 
 -- so their lengths are 16-bit numbers

@@ -97,7 +97,7 @@ lone_treated s bytes kind = by_way IsLone s bytes kind (record {
   delivers = λ d row by. record { items = omega arith; closings = refl; openings = omega arith; drops = omega arith };
   forwards = λ got g by abroad. record { items = omega arith; closings = refl; openings = one_opening s g; drops = omega arith };
   turns = λ got g row by turned. record { items = omega arith; closings = refl; openings = one_opening s g; drops = omega arith };
-  holds = λ got g cause by. record { items = omega arith; closings = refl; openings = one_opening s g; drops = omega arith };
+  holds = λ got g cause by refuses. record { items = omega arith; closings = refl; openings = one_opening s g; drops = omega arith };
 })
 
 few_taken : (n now : ℕ) (rows : List Mapping) (leases : List LeaseRow) → length (closings_of n now rows leases) ≤ n

@@ -142,12 +142,13 @@ pub record EachWay (P : Step → Type 0) (s : State) (bytes : List ℕ) : Type 0
   pub delivers : (d : Datagram) (row : Mapping) → IsIn s bytes d row → P (sent_in s d row)
   pub forwards : (got : Outbound) (g : Grant) → IsOut s bytes got g → turns_back s got ≡ false → P (sent_out s got g)
   pub turns : (got : Outbound) (g : Grant) (row : Mapping) → IsOut s bytes got g → IsTurned s got g row → P (sent_back s got g row)
-  pub holds : (got : Outbound) (g : Grant) (cause : DropCause) → IsOut s bytes got g → P (held_back s got g cause)
+  pub holds : (got : Outbound) (g : Grant) (cause : DropCause) → IsOut s bytes got g
+      → receiver_of (granted_only (flow_of got) g s) (arrival_of (turned got g)) ≡ Err cause → P (held_back s got g cause)
 
 way_back : (P : Step → Type 0) (s : State) (bytes : List ℕ) (got : Outbound) (g : Grant) (r : Result Mapping DropCause)
     → receiver_of (granted_only (flow_of got) g s) (arrival_of (turned got g)) ≡ r → IsOut s bytes got g → EachWay P s bytes
     → P (elim r [ Err cause ↦ held_back s got g cause | Ok row ↦ sent_back s got g row ])
-way_back P s bytes got g (Err cause) e is each = each.holds got g cause is
+way_back P s bytes got g (Err cause) e is each = each.holds got g cause is e
 way_back P s bytes got g (Ok row) e is each =
     each.turns got g row is (is_received (granted_only (flow_of got) g s) (arrival_of (turned got g)) row e)
 

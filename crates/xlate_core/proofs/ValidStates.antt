@@ -57,7 +57,7 @@ treated_beside s bytes kind = by_way (IsBeside s) s bytes kind (record {
   delivers = λ d r by. record { clock = refl; config = refl; floor = refl; horizon = refl; plans = refl };
   forwards = λ got g by abroad. record { clock = refl; config = refl; floor = refl; horizon = refl; plans = refl };
   turns = λ got g row by turned. record { clock = refl; config = refl; floor = refl; horizon = refl; plans = refl };
-  holds = λ got g cause by. record { clock = refl; config = refl; floor = refl; horizon = refl; plans = refl };
+  holds = λ got g cause by refuses. record { clock = refl; config = refl; floor = refl; horizon = refl; plans = refl };
 })
 
 -- a packet that goes out was granted its place
@@ -93,7 +93,7 @@ consistent_treated s bytes kind ok v = by_way (λ (t : Step). IsConsistent t.sta
   forwards = λ got g by abroad. consistent_grant (grant_out ok by) v;
   turns = λ got g row by back.
       consistent_inbound (after_grant (flow_of got) g s) (arrival_of (turned got g)) (consistent_grant (grant_out ok by) v);
-  holds = λ got g cause by. consistent_only (grant_out ok by) v;
+  holds = λ got g cause by refuses. consistent_only (grant_out ok by) v;
 })
 
 -- ---- a step

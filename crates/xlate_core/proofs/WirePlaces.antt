@@ -179,7 +179,7 @@ wire_treated s bytes kind ok h = by_way (λ (t : Step). All IsOnWire t.state.lea
   delivers = λ d r by. h;
   forwards = λ got g by abroad. wire_grant (grant_out ok by) h;
   turns = λ got g row by turned. wire_grant (grant_out ok by) h;
-  holds = λ got g cause by. wire_grant (grant_out ok by) h;
+  holds = λ got g cause by refuses. wire_grant (grant_out ok by) h;
 })
 
 pub wire_step : (s : State) (e : Event) → is_accepted s.config ≡ true → All IsOnWire s.leases → All IsOnWire (step s e).state.leases

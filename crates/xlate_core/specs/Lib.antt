@@ -5,6 +5,7 @@ pub mod Endpoints
 pub mod Expiry
 pub mod Grant
 pub mod Inbound
+pub mod Lasting
 pub mod Laws
 pub mod Outbound
 pub mod Packet

@@ -1,5 +1,6 @@
 //! Laws of all records and of all runs, which no code stands for.
 ghost use Rattle.xlate_core.specs.Laws.{EachRunIsAhead, EachRunIsTold, EachStepIsAhead, EachStepIsTold};
+ghost use Rattle.xlate_core.specs.Lasting.{EachRefusalLeavesAll, EachUseLasts};
 ghost use Rattle.xlate_core.specs.Laws.{EachRunIsReached, EachRunIsValid, EachRunKeepsTold};
 
 /// The log can be believed: it can be told what each record logs, in the order of a message, and it then tells the leases,
@@ -18,4 +19,11 @@ pub fn runs_are_valid()
     ensures reached { EachRunIsReached }
     ensures valid { EachRunIsValid }
     ensures kept { EachRunKeepsTold }
+{}
+
+/// Nothing goes to make room (RFC 6888 section 3): whatever the records are, a mapping keeps its place and its remote endpoints
+/// until their time has run out, and a packet that is refused a place changes nothing.
+pub fn quotas_refuse()
+    ensures lasting { EachUseLasts }
+    ensures refusal { EachRefusalLeavesAll }
 {}

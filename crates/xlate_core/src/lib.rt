@@ -17,6 +17,6 @@ mod subscriber_table;
 mod translator;
 
 pub use grant::{Grant, Sender};
-pub use laws::{log_is_believed, runs_are_valid};
+pub use laws::{log_is_believed, quotas_refuse, runs_are_valid};
 pub use step_out::{Item, StepOut};
 pub use translator::Core;
