@@ -89,6 +89,24 @@ LATE_BOTH = message(
 )
 NO_RECORDS = message(7, 0, "")
 
+# A millisecond later the first subscriber sends to the other one's place, where it comes from 192.0.2.8 port 1024.
+BETWEEN = """00000051 01 00000000000f4242 60000000 0020 04 40
+    20010db8010000000000000000000002 20010db8000000000000000000000001
+    45000020 00010000 4011f8c1 c0000002 c0000208 13880600 000c9f7c 61626364"""
+BETWEEN_SENT = """00000051 01 00000000000f4242 60000000 0020 04 40
+    20010db8000000000000000000000001 20010db8010001000000000000000002
+    45000020 00010000 3f11f9c1 c0000208 c0000002 04001388 000ca17c 61626364"""
+# To a port of that address that nobody has, and to the place that its own packets come from.
+TO_NOBODY = BETWEEN.replace("13880600 000c9f7c", "13880800 000c9d7c")
+TO_ITSELF = BETWEEN.replace("13880600 000c9f7c", "13880400 000ca17c")
+TO_ITSELF_SENT = BETWEEN_SENT.replace("20010db801000100", "20010db801000000")
+# 100 s before the first packet's mapping ends.
+NOBODY_LATER, ITSELF_LATER, ITSELF_LATER_SENT = (
+    text.replace("0f4242", "124f80") for text in (TO_NOBODY, TO_ITSELF, TO_ITSELF_SENT)
+)
+ITSELF_MESSAGE = message(1200, 2, horizon(1_200_000, 1_202_000))
+BOTH_BLOCKS = log_of(FIRST_MESSAGE, message(1000, 2, blocks(OTHER_BLOCK)))
+
 # ---- runs
 
 RUNS = [
@@ -160,6 +178,49 @@ RUNS = [
     ),
     run_of(
         "a change of the configuration", "00000009 04 0000000000000001", "", EMPTY_LOG, summary(1, 0, "BadChange 1")
+    ),
+    # packets between subscribers
+    run_of(
+        "a packet to another subscriber's place",
+        FIRST_PACKET + OTHER_SUBSCRIBER + BETWEEN,
+        FIRST_SENT + OTHER_SENT + BETWEEN_SENT,
+        BOTH_BLOCKS,
+        summary(3, 3),
+    ),
+    run_of(
+        "a packet to nobody's place",
+        FIRST_PACKET + OTHER_SUBSCRIBER + TO_NOBODY,
+        FIRST_SENT + OTHER_SENT,
+        BOTH_BLOCKS,
+        summary(3, 2, "NoMapping 1"),
+    ),
+    run_of(
+        "a packet to its own place",
+        FIRST_PACKET + TO_ITSELF,
+        FIRST_SENT + TO_ITSELF_SENT,
+        FIRST_LOG,
+        summary(2, 2),
+    ),
+    run_of(
+        "a refused packet to the pool moves no deadline",
+        FIRST_PACKET + NOBODY_LATER + LAST_REPLY + LATE_REPLY,
+        FIRST_SENT + LAST_REPLY_SENT,
+        CLOSED_LOG,
+        summary(4, 2, "NoMapping 2"),
+    ),
+    run_of(
+        "one that comes through does",
+        FIRST_PACKET + ITSELF_LATER + LATE_REPLY,
+        FIRST_SENT + ITSELF_LATER_SENT + LATE_REPLY_SENT,
+        log_of(FIRST_MESSAGE, ITSELF_MESSAGE),
+        summary(3, 3),
+    ),
+    run_of(
+        "a mapping that a refused packet to the pool made",
+        TO_NOBODY.replace("0f4242", "0f4240") + REPLY,
+        REPLY_SENT,
+        FIRST_LOG,
+        summary(2, 1, "NoMapping 1"),
     ),
     # the horizon
     run_of(

@@ -30,6 +30,7 @@ from refusal_cases import refusals
 from streams import RUN, Session
 
 ALL_KINDS = 100  # so many streams have each kind of input among them
+DEFAULTS = model.Config()
 
 
 class Comparison:
@@ -58,11 +59,13 @@ class Comparison:
             os.remove(entry.path)
         return done.returncode, done.stdout, done.stderr, left
 
-    def check(self, label: str, words: List[str], files: Files, wanted: model.Answer) -> None:
-        """One case with what is wanted of it, by the model and by the program, where there is one."""
-        answered = model.answer(words, files)
+    def check(
+        self, label: str, words: List[str], files: Files, wanted: model.Answer, config: model.Config = DEFAULTS
+    ) -> None:
+        """One case with what is wanted of it, by the model, and by the program where there is one. It has the defaults."""
+        answered = model.answer(words, files, config)
         found = [f"the model answers {answered.report!r}"] if answered != wanted else []
-        if self.program is not None:
+        if self.program is not None and config == DEFAULTS:
             found += self.differences(words, files, wanted)
         self.count(label, words, files, found)
 
@@ -97,8 +100,9 @@ class Comparison:
         """Counts and prints the lines that no report had, of which the comparison shows nothing."""
         lines = "records sent marks named unheld beyond lease plan horizon".split()
         faults = "BadWords BadConfig BadInput ReadFault LogFault LogDamaged AlreadyThere".split()
-        # With the default configuration all mappings that a subscriber may have fit into the blocks that it may have.
-        drops = [f"drop {cause}" for cause in model.CAUSES if cause != "QuotaBlocks"]
+        # With the default configuration all mappings that a subscriber may have fit into the blocks that it may have, and
+        # every remote may send to a mapping.
+        drops = [f"drop {cause}" for cause in model.CAUSES if cause not in ("QuotaBlocks", "Filtered")]
         for line in [*lines, *drops, *(f"fault {name}" for name in faults)]:
             if line not in self.reports:
                 self.failed += 1
@@ -148,8 +152,9 @@ def check_cases(comparison: Comparison) -> None:
         comparison.check(case.name, list(case.words), case.before(), wanted)
     for refusal in refusals():
         files: Files = {"config": b"", "log": EMPTY_LOG, "in": b"".join(refusal.records)}
-        wanted = model.Answer(0, refusal.report(), model.answer(RUN, files).files)
-        comparison.check(refusal.name, RUN, files, wanted)
+        config = model.Config(is_by_address=refusal.is_by_address)
+        wanted = model.Answer(0, refusal.report(), model.answer(RUN, files, config).files)
+        comparison.check(refusal.name, RUN, files, wanted, config)
 
 
 def compare_run(comparison: Comparison, label: str, rng: random.Random, session: Session, traces: int) -> None:
@@ -242,9 +247,8 @@ def compare_stream(comparison: Comparison, seed: int, number: int, traces: int) 
     rng = random.Random(f"{seed} {number}")
     label = f"seed {seed}, stream {number}"
     rare = {10: streams.full_block, 30: streams.long_input, 60: streams.full_pool, 80: streams.long_input}
-    kind = rng.random()
-    usual = streams.ordinary if kind < 0.6 else streams.connections if kind < 0.75 else streams.mutated
-    compare_run(comparison, label, rng, rare.get(number % 100, usual)(rng), traces)
+    usual = [streams.ordinary] * 10 + [streams.mutated] * 4 + [streams.connections] * 3 + [streams.inward] * 3
+    compare_run(comparison, label, rng, rare.get(number % 100, rng.choice(usual))(rng), traces)
     if number % 100 == 40:
         compare_cuts(comparison, label, rng)
     if number % 50 == 45:

@@ -43,7 +43,7 @@ MORE_FRAGMENTS, FRAGMENT_OFFSET, DONT_FRAGMENT = 0x2000, 0x1FFF, 0x4000
 # The causes that are given today, in the order of the report.
 CAUSES = (
     "Settling BadPacket NotUs NotTunnel UnknownSubscriber Options NoRoute NoProtocol TtlSpent TooBig "
-    "QuotaMappings QuotaPeers QuotaBlocks AddressFull PoolEmpty NoMapping BadChange"
+    "QuotaMappings QuotaPeers QuotaBlocks AddressFull PoolEmpty NoMapping Filtered BadChange"
 ).split()
 
 Files = Dict[str, bytes]
@@ -58,6 +58,7 @@ class Config(NamedTuple):
 
     horizon: int = 2_000  # how far past a packet the log promises names
     log_limit: int = 1 << 30
+    is_by_address: bool = False  # mappings admit the addresses alone that they have a peer at (RFC 4787 5)
 
 
 class Inner(NamedTuple):
@@ -225,7 +226,7 @@ def from_softwire(data: bytes) -> Tuple[int, bytes]:
     require_transport(packet)
     is_whole = destination in POOL or len(packet) <= PUBLIC_MTU
     require(is_whole or word(packet, 6) & DONT_FRAGMENT == 0, "TooBig")
-    require(is_whole and destination not in POOL, "NoProtocol")
+    require(is_whole, "NoProtocol")
     return softwire, packet
 
 
@@ -252,8 +253,8 @@ def sum_place(packet: bytes) -> int:
     return IPV4_HEADER + (16 if packet[9] == TCP else 6)
 
 
-def moved(packet: bytes, is_source: bool, place: Place) -> bytes:
-    """The packet with this place as source or destination and one hop less.
+def moved(packet: bytes, is_source: bool, place: Place, hops: int = 1) -> bytes:
+    """The packet with this place as source or destination and one hop less, or so many.
 
     Its header's checksum is computed anew, and so is that of the transport where it was right. One that was wrong is as
     wrong afterwards: it changes by what is added and taken away, modulo 65535 (RFC 1624). Of UDP none stays none, and a
@@ -261,7 +262,7 @@ def moved(packet: bytes, is_source: bool, place: Place) -> bytes:
     """
     address_at, port_at = (12, 20) if is_source else (16, 22)
     out = bytearray(packet)
-    out[8] -= 1
+    out[8] -= hops
     out[address_at : address_at + 4] = place.address.to_bytes(4, "big")
     out[port_at : port_at + 2] = place.port.to_bytes(2, "big")
     out[10:12] = bytes(2)
@@ -279,6 +280,11 @@ def moved(packet: bytes, is_source: bool, place: Place) -> bytes:
         found = (word(packet, sum_at) + taken - added) % 0xFFFF
     out[sum_at : sum_at + 2] = (0xFFFF if is_udp and found == 0 else found).to_bytes(2, "big")
     return bytes(out)
+
+
+def delivered(inner: Inner, packet: bytes, hops: int) -> bytes:
+    """The packet on its way to a subscriber's place, so many hops on."""
+    return encapsulated(moved(packet, False, Place(inner.address, inner.port), hops), inner.softwire)
 
 
 def encapsulated(packet: bytes, softwire: int) -> bytes:
@@ -366,27 +372,63 @@ class Translator:
 
     def outbound(self, softwire: int, packet: bytes) -> None:
         inner = Inner(softwire, number(packet, 12, 4), word(packet, 20), packet[9])
-        remote = remote_of(packet, 16, 22)
-        owner, mapping = subscriber_of(softwire), self.mappings.get(inner)
+        mapping = self.granted(inner, packet)
+        if number(packet, 16, 4) in POOL:
+            self.hairpin(mapping, packet)
+            return
+        self.touch(mapping, packet)
+        self.send_from(mapping, PUBLIC, moved(packet, True, mapping.place))
+
+    def granted(self, inner: Inner, packet: bytes) -> Mapping:
+        """The mapping that is there, where it may have the packet's remote, or a new one, which has it at once."""
+        owner, mapping = subscriber_of(inner.softwire), self.mappings.get(inner)
         if mapping is None:
             mapping = self.mappings[inner] = Mapping(inner, owner, self.new_place(owner, packet[9]))
-        elif remote not in mapping.peers:
+            self.touch(mapping, packet)
+        elif remote_of(packet, 16, 22) not in mapping.peers:
             require(peers_of(self.rows_of(owner)) < MAX_PEERS, "QuotaPeers")
+        return mapping
+
+    def touch(self, mapping: Mapping, packet: bytes) -> None:
+        """A packet that goes out makes or keeps its peer; that it does so twice at a moment changes nothing."""
+        remote = remote_of(packet, 16, 22)
         known = mapping.peers.get(remote)
         self.keep(mapping, remote, state_after(known.state if known else None, packet, True))
-        if self.horizon < self.clock:
-            self.horizon = self.batch.horizon = self.clock + self.config.horizon
-        self.send(PUBLIC, moved(packet, True, mapping.place))
+
+    def hairpin(self, mapping: Mapping, packet: bytes) -> None:
+        """A packet to the pool goes to the mapping there, from its own external place, by one hop (RFC 4787 6, RFC 5382 7.2).
+
+        Where it is refused, an old mapping keeps its peers as they were, and a new one has the peer that it was made with.
+        """
+        target = self.target_of(packet)
+        require(self.admits(target, mapping.place.address), "Filtered")
+        require(IPV6_HEADER + len(packet) <= SOFTWIRE_MTU, "NoProtocol")
+        self.touch(mapping, packet)
+        from_outside = moved(packet, True, mapping.place)
+        self.follow(target, from_outside)
+        self.send_from(mapping, SOFTWIRE, delivered(target.inner, from_outside, 0))
 
     def inbound(self, packet: bytes) -> None:
-        place = Place(number(packet, 16, 4), word(packet, 22))
-        found = [row for row in self.mappings.values() if row.place == place and row.inner.protocol == packet[9]]
-        require(len(found) == 1, "NoMapping")
-        inner = found[0].inner
-        whole = encapsulated(moved(packet, False, Place(inner.address, inner.port)), inner.softwire)
-        require(len(whole) <= SOFTWIRE_MTU, "NoProtocol")
-        self.follow(found[0], packet)
-        self.send(SOFTWIRE, whole)
+        target = self.target_of(packet)
+        require(self.admits(target, number(packet, 12, 4)), "Filtered")
+        require(IPV6_HEADER + len(packet) <= SOFTWIRE_MTU, "NoProtocol")
+        self.follow(target, packet)
+        self.send(SOFTWIRE, delivered(target.inner, packet, 1))
+
+    def mapping_at(self, place: Place, protocol: int) -> Optional[Mapping]:
+        found = [row for row in self.mappings.values() if row.place == place and row.inner.protocol == protocol]
+        return found[0] if found else None
+
+    def target_of(self, packet: bytes) -> Mapping:
+        """The mapping of the packet's protocol whose place is its destination."""
+        found = self.mapping_at(Place(number(packet, 16, 4), word(packet, 22)), packet[9])
+        if found is None:
+            raise Drop("NoMapping")
+        return found
+
+    def admits(self, mapping: Mapping, address: int) -> bool:
+        """Whether packets from this address may come to the mapping (RFC 4787 5)."""
+        return not self.config.is_by_address or any(remote.address == address for remote in mapping.peers)
 
     def follow(self, mapping: Mapping, packet: bytes) -> None:
         """A segment that comes in may move the state of the peer that it is from, and its deadline with it."""
@@ -429,6 +471,7 @@ class Translator:
                     lease = Lease(owner, address, first, first + BLOCK_SIZE - 1, self.clock)
                     self.leases.append(lease)
                     self.batch.openings.append(lease)
+                    self.promise()
                     return Place(address, first)
         raise Drop(without)
 
@@ -437,6 +480,15 @@ class Translator:
         if lease.until is None:
             return False
         return lease.until + HOLD <= self.clock or (lease.owner == owner and lease.until < self.clock)
+
+    def promise(self) -> None:
+        """The horizon reaches each lease that opens and each packet that leaves from a mapping's place."""
+        if self.horizon < self.clock:
+            self.horizon = self.batch.horizon = self.clock + self.config.horizon
+
+    def send_from(self, mapping: Mapping, kind: int, packet: bytes) -> None:
+        self.promise()
+        self.send(kind, packet)
 
     def send(self, kind: int, packet: bytes) -> None:
         self.packets += 1

@@ -16,6 +16,7 @@ MOMENT = 1_000_000
 FIRST_PACKET = frame(FROM_SOFTWIRE, MOMENT, Softwire().spelled())
 REPLY = Udp(quad("203.0.113.5"), 53, quad("192.0.2.8"), 1024)
 MTU = 1500
+POOL = quad("192.0.2.8")
 Changes = Dict[str, Any]
 
 
@@ -35,6 +36,7 @@ class Refusal(NamedTuple):
     name: str
     records: Sequence[bytes]
     cause: Optional[str]
+    is_by_address: bool = False  # by the filter; the program takes the other one, so it is the model's alone
 
     def report(self) -> str:
         drops = [] if self.cause is None else [f"drop {self.cause} 1"]
@@ -110,7 +112,7 @@ FROM_SUBSCRIBERS = [
         for text in "0.255.255.255 127.0.0.1 224.0.0.1 255.255.255.255 192.0.0.0 192.0.0.7".split()
     ],
     *TRANSPORTS,
-    Fault("a destination in the pool", "NoProtocol", {"destination": quad("192.0.2.8")}),  # where nothing is too big
+    Fault("a place in the pool without a mapping", "NoMapping", {"destination": POOL}),  # where nothing is too big
     Fault("a packet that may not be cut", "TooBig", TOO_LONG),
     Fault("a packet that would be cut", "NoProtocol", {"payload": long_payload(MTU + 1)}),
 ]
@@ -195,8 +197,8 @@ MORE_FROM_SUBSCRIBERS = [
     from_subscriber("a piece that may not be cut", "NoProtocol", {"fragment": DONT_FRAGMENT | MORE_FRAGMENTS}, {}),
     from_subscriber("a cut third header", "BadPacket", {"kept": 6}, behind(0, "3c00010400000000 2c00010400000000")),
     from_subscriber("options behind a fragment", "NoProtocol", {"ttl": 1}, behind(44, "3c00000100000007")),
-    from_subscriber("a long packet to the pool", "NoProtocol", {**TOO_LONG, "destination": quad("192.0.2.8")}, {}),
-    from_subscriber("a bad datagram to the pool", "BadPacket", {"destination": quad("192.0.2.8"), "udp_length": 7}, {}),
+    from_subscriber("a long packet to the pool", "NoMapping", {**TOO_LONG, "destination": POOL}, {}),
+    from_subscriber("a bad datagram to the pool", "BadPacket", {"destination": POOL, "udp_length": 7}, {}),
     from_subscriber("neither a version nor words", "BadPacket", {"version": 0, "words": 0}, {}),
     from_subscriber("no IPv4 header at all", "BadPacket", {"kept": 0}, {}),
 ]
@@ -206,6 +208,49 @@ MORE_FROM_OUTSIDE = [
     from_outside("a long packet to no mapping", "NoMapping", {"port": 1023, "payload": long_payload(MTU)}),
     from_outside("a source in the pool, spent", "NoRoute", {"source": quad("192.0.2.8"), "ttl": 0}),
 ]
+
+# Behind the first packet, whose place is 192.0.2.8 port 1024.
+OWN_PLACE: Changes = {"destination": POOL, "port": 1024}
+TO_POOL = [
+    from_subscriber("to a port without a mapping", "NoMapping", {**OWN_PLACE, "port": 1025}, {}),
+    from_subscriber("to another address's port", "NoMapping", {**OWN_PLACE, "destination": POOL + 1}, {}),
+    from_subscriber("from a new port to none", "NoMapping", {"source_port": 1, "destination": POOL}, {}),
+    from_subscriber("from a new subscriber to none", "NoMapping", {"destination": POOL}, {"source": softwire_of(1)}),
+    from_subscriber("by TCP to UDP", "NoMapping", {}, {"inner": Tcp(**OWN_PLACE).spelled(), "source": softwire_of(1)}),
+    from_subscriber("too long for a softwire", "NoProtocol", {**OWN_PLACE, "payload": long_payload(MTU - 40 + 1)}, {}),
+    from_subscriber("much too long for one", "NoProtocol", {**OWN_PLACE, **TOO_LONG}, {}),
+    from_subscriber("a long one to no mapping", "NoMapping", {"destination": POOL, "payload": long_payload(MTU)}, {}),
+    from_subscriber("to its own place", None, OWN_PLACE, {}),
+    from_subscriber("from a new port", None, {**OWN_PLACE, "source_port": 1}, {}),
+    from_subscriber("from a new subscriber", None, OWN_PLACE, {"source": softwire_of(1)}),
+    from_subscriber("to its own new place", None, {**OWN_PLACE, "source_port": 1, "port": 1025}, {}),
+    from_subscriber("to its own new place by TCP", None, {}, {"inner": Tcp(**OWN_PLACE).spelled()}),
+    from_subscriber("to its own place by two hops", None, {**OWN_PLACE, "ttl": 2}, {}),
+    from_subscriber("as long as a softwire takes", None, {**OWN_PLACE, "payload": long_payload(MTU - 40)}, {}),
+]
+
+
+def by_address() -> Iterator[Refusal]:
+    """The filter by address. A mapping has a peer at its own address where a packet to the pool has made it so."""
+    new_place: Changes = {**OWN_PLACE, "source_port": 1, "port": 1025}
+    too_long: Changes = {"payload": long_payload(MTU - 40 + 1)}
+    other: Changes = {"source": softwire_of(1)}
+    found = [
+        from_outside("another address", "Filtered", {"source": quad("203.0.113.6")}),
+        from_outside("another address, too long", "Filtered", {"source": quad("203.0.113.6"), **too_long}),
+        from_outside("another address, to no mapping", "NoMapping", {"source": quad("203.0.113.6"), "port": 1025}),
+        from_outside("another port", None, {"source_port": 99}),
+        from_subscriber("to its own place", "Filtered", OWN_PLACE, {}),
+        from_subscriber("to its own place, too long", "Filtered", {**OWN_PLACE, **too_long}, {}),
+        from_subscriber("to a port beside", "NoMapping", {**OWN_PLACE, "port": 1025}, {}),
+        from_subscriber("from a new port", "Filtered", {**OWN_PLACE, "source_port": 1}, {}),
+        from_subscriber("from a new subscriber", "Filtered", OWN_PLACE, other),
+        from_subscriber("to its own new place", None, new_place, {}),
+        from_subscriber("to its own new place, too long", "NoProtocol", {**new_place, **too_long}, {}),
+        from_subscriber("to its own new place by TCP", None, {}, {"inner": Tcp(**OWN_PLACE).spelled()}),
+    ]
+    yield from (refusal._replace(name=f"by address, {refusal.name}", is_by_address=True) for refusal in found)
+
 
 # Packets at the edge of a rule, which pass.
 ROUTED = (
@@ -259,16 +304,18 @@ def refused_grants() -> Iterator[Refusal]:
     all_mappings, full_address = granted(1, 4096), granted(126) + full_block[1:]
     other_port: Changes = {"source_port": 512}
     last_port: Changes = {"source_port": 4096}
-    to_pool: Changes = {"destination": quad("192.0.2.8")}
+    to_pool: Changes = {"destination": POOL, "port": 1024}
     yield last("all mappings", all_mappings, "QuotaMappings", last_port)
-    yield last("all mappings, to the pool", all_mappings, "NoProtocol", {**last_port, **to_pool})
+    yield last("all mappings, to the pool", all_mappings, "QuotaMappings", {**last_port, **to_pool})
     yield last("a full address", full_address, "AddressFull", other_port)
-    yield last("a full address, to the pool", full_address, "NoProtocol", {**other_port, **to_pool})
+    yield last("a full address, to the pool", full_address, "AddressFull", {**other_port, **to_pool})
     yield last("a full pool", full_pool, "PoolEmpty", {}, 504)
-    yield last("a full pool, to the pool", full_pool, "NoProtocol", to_pool, 504)
+    yield last("a full pool, to the pool", full_pool, "PoolEmpty", to_pool, 504)
     yield last("a full block and a full pool", full_pool + full_block[1:], "AddressFull", other_port)
     yield last("all peers", all_peers, "QuotaPeers", {"destination": quad("203.0.64.0")})
     yield last("all peers, from another port", all_peers, "QuotaPeers", other_port)
+    yield last("all peers, to its own place", all_peers, "QuotaPeers", to_pool)
+    yield last("all peers, to no mapping", all_peers, "QuotaPeers", {"destination": POOL})
     yield last("all peers, may not be cut", all_peers, "TooBig", TOO_LONG)
 
 
@@ -280,6 +327,8 @@ def refusals() -> Iterator[Refusal]:
         yield from_outside(fault.name, fault.cause, fault.udp, fault.is_early)
     yield from MORE_FROM_SUBSCRIBERS
     yield from MORE_FROM_OUTSIDE
+    yield from TO_POOL
+    yield from by_address()
     yield from PASSING
     yield from segments()
     yield from refused_grants()

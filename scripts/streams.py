@@ -5,7 +5,7 @@ from __future__ import annotations
 import os
 import random
 import struct
-from typing import List, NamedTuple, Optional, Sequence
+from typing import Callable, List, NamedTuple, Optional, Sequence
 
 import model
 from log_form import Place, Told
@@ -29,6 +29,7 @@ EDGE_ADDRESSES = quads(
     "0.0.0.0 0.255.255.255 1.0.0.0 126.255.255.255 127.0.0.1 127.255.255.255 128.0.0.0 223.255.255.255 224.0.0.1 "
     "240.0.0.0 255.255.255.255 191.255.255.255 192.0.0.0 192.0.0.7 192.0.0.8 192.0.2.7 192.0.2.8 192.0.2.11 192.0.2.12"
 )
+EDGE_PORTS = (0, 1, 1023, 1024, 1025, 1535, 1536, 1537, 2048, 65535)
 
 
 def with_sum(packet: bytearray) -> bytearray:
@@ -120,20 +121,25 @@ def edited(rng: random.Random, packet: bytearray) -> bytearray:
     return packet
 
 
-def with_sums_to_zero(rng: random.Random, packet: bytearray, is_source: bool, place: Place) -> bytearray:
-    """The packet with a sum that is zero once it moves to this place, the transport's or IPv4's; or zero before it moves."""
+def with_sums_to_zero(rng: random.Random, packet: bytearray, change: Callable[[bytes], bytes]) -> bytearray:
+    """The packet with a sum that is zero once it is changed like this, the transport's or IPv4's; or zero before."""
     if rng.random() < 0.6:
         at = model.sum_place(packet)
         packet[at : at + 2] = b"\0\1"
-        from_one = model.word(model.moved(packet, is_source, place), at)
+        from_one = model.word(change(packet), at)
         packet[at : at + 2] = struct.pack(">H", (1 - from_one) % 0xFFFF or 0xFFFF)
         return packet
-    at_zero = packet if rng.random() < 0.5 else with_sum(bytearray(model.moved(packet, is_source, place)))
+    at_zero = packet if rng.random() < 0.5 else with_sum(bytearray(change(packet)))
     packet[4:6] = struct.pack(">H", (model.word(packet, 4) + model.word(at_zero, 10)) % 0xFFFF)
     with_sum(packet)
     if packet[10:12] == bytes(2) and rng.random() < 0.5:
         packet[10:12] = b"\xff\xff"  # the other zero of one's complement
     return packet
+
+
+def change_in(mapping: Mapping) -> Callable[[bytes], bytes]:
+    """What becomes of a packet from outside to the mapping."""
+    return lambda packet: model.moved(packet, False, Place(mapping.inner.address, mapping.inner.port))
 
 
 class Session:
@@ -143,6 +149,7 @@ class Session:
         self.rng = rng
         self.state = Translator(told)
         self.pieces: List[bytes] = []
+        self.inward = 0.1  # the share of the subscribers' packets that are for the pool
         self.softwires = rng.sample(SOFTWIRES, rng.randint(1, 4))
         self.ports = [rng.choice((0, 1, 53, 5000, 5001, 40000, 65535)) for _ in range(rng.randint(1, 5))]
         floor = self.state.floor
@@ -193,18 +200,43 @@ class Session:
         at = self.rng.randrange(len(rules))
         return self.rng.sample(rules[at : at + 6], min(count, len(rules) - at))
 
+    def remote(self, inner: Inner) -> Remote:
+        """Where a subscriber sends to: outside, or into the pool."""
+        if self.rng.random() < self.inward:
+            return self.remote_inside(inner)
+        return Remote(self.rng.choice(REMOTES), self.rng.choice((53, 99)))
+
+    def remote_inside(self, inner: Inner) -> Remote:
+        """A place of the pool: the sender's own, a live one, the next one that a subscriber may get, or any."""
+        own, live, step = self.state.mappings.get(inner), list(self.state.mappings.values()), self.rng.random()
+        if own is not None and step < 0.2:
+            return Remote(*own.place)
+        if live and step < 0.9:
+            place = self.rng.choice(live).place
+            return Remote(place.address, (place.port + (1 if step < 0.35 else 0)) % 65536)
+        return Remote(self.rng.choice(model.POOL), self.rng.choice(EDGE_PORTS))
+
+    def change_out(self, mapping: Mapping, remote: Remote) -> Callable[[bytes], bytes]:
+        """What becomes of a packet of the mapping on its way to this remote, or on the first half of one into the pool."""
+        target = self.state.mapping_at(Place(*remote), mapping.inner.protocol)
+
+        def change(packet: bytes) -> bytes:
+            out = model.moved(packet, True, mapping.place)
+            return out if target is None else model.delivered(target.inner, out, 0)[model.IPV6_HEADER :]
+
+        return change if self.rng.random() < 0.5 else lambda packet: model.moved(packet, True, mapping.place)
+
     def outbound(self) -> None:
         """A packet of a subscriber, which may be edited at every layer, or break a rule or more."""
         rng = self.rng
         protocol = rng.choice((UDP, UDP, TCP))
         inner = Inner(rng.choice(self.softwires), rng.choice(INNERS), rng.choice(self.ports), protocol)
-        remote, port = rng.choice(REMOTES), rng.choice((53, 99))
-        around = Softwire(source=inner.softwire)
+        remote, around = self.remote(inner), Softwire(source=inner.softwire)
         if protocol == TCP and rng.random() < 0.8:
-            self.segment_out(inner, Remote(remote, port))
+            self.segment_out(inner, remote)
             return
-        payload = self.payload((1471, 1472, 1473))
-        udp = Udp(inner.address, inner.port, remote, port, payload, ident=rng.randrange(65536))
+        payload = self.payload((1431, 1432, 1433, 1471, 1472, 1473))
+        udp = Udp(inner.address, inner.port, *remote, payload, ident=rng.randrange(65536))
         inner = inner._replace(protocol=UDP)
         if rng.random() < 0.2:
             for fault in self.faults(FROM_SUBSCRIBERS):
@@ -214,7 +246,7 @@ class Session:
         packet = bytearray(udp.spelled())
         mapping = self.state.mappings.get(inner)
         if mapping is not None and rng.random() < 0.2:
-            packet = with_sums_to_zero(rng, packet, True, mapping.place)
+            packet = with_sums_to_zero(rng, packet, self.change_out(mapping, remote))
         elif rng.random() < 0.15:
             packet = edited(rng, packet)
         packet += rng.randbytes(rng.choice((0, 0, 0, 0, 1, 7)))
@@ -235,12 +267,12 @@ class Session:
         """A TCP segment of a subscriber, which may be edited."""
         rng = self.rng
         flags, options = rng.choice(FLAGS), bytes(rng.choice((0, 0, 4, 40)))
-        payload = self.payload((1459, 1460, 1461))
-        tcp = Tcp(inner.address, inner.port, remote.address, remote.port, payload, flags, tcp_options=options)
+        payload = self.payload((1419, 1420, 1421, 1459, 1460, 1461))
+        tcp = Tcp(inner.address, inner.port, *remote, payload, flags, tcp_options=options)
         packet = bytearray(tcp.spelled())
         mapping = self.state.mappings.get(inner)
         if mapping is not None and rng.random() < 0.15:
-            packet = with_sums_to_zero(rng, packet, True, mapping.place)
+            packet = with_sums_to_zero(rng, packet, self.change_out(mapping, remote))
         elif rng.random() < 0.15:
             packet = edited(rng, packet)
         self.add(SOFTWIRE, Softwire(bytes(packet), inner.softwire).spelled())
@@ -254,7 +286,7 @@ class Session:
         tcp = Tcp(remote.address, remote.port, place.address, place.port, payload, rng.choice(FLAGS))
         packet = bytearray(tcp.spelled())
         if rng.random() < 0.15:
-            packet = with_sums_to_zero(rng, packet, False, Place(mapping.inner.address, mapping.inner.port))
+            packet = with_sums_to_zero(rng, packet, change_in(mapping))
         elif rng.random() < 0.15:
             packet = edited(rng, packet)
         self.add(PUBLIC, packet)
@@ -267,7 +299,7 @@ class Session:
         if mapping is not None and mapping.inner.protocol == TCP and rng.random() < 0.9:
             self.segment_in(mapping)
             return
-        beside = Place(rng.choice(model.POOL), rng.choice((0, 1, 1023, 1024, 1025, 1535, 1536, 1537, 2048, 65535)))
+        beside = Place(rng.choice(model.POOL), rng.choice(EDGE_PORTS))
         remote = rng.choice(list(model.POOL) if rng.random() < 0.04 else REMOTES + INNERS)
         place = mapping.place if mapping else beside
         payload = self.payload((1431, 1432, 1433, 1472))
@@ -280,7 +312,7 @@ class Session:
             return
         packet = bytearray(udp.spelled())
         if mapping is not None and rng.random() < 0.2:
-            packet = with_sums_to_zero(rng, packet, False, Place(mapping.inner.address, mapping.inner.port))
+            packet = with_sums_to_zero(rng, packet, change_in(mapping))
         elif rng.random() < 0.15:
             packet = edited(rng, packet)
         self.add(PUBLIC, packet + rng.randbytes(rng.choice((0, 0, 0, 1, 30))))
@@ -380,11 +412,22 @@ def connections(rng: random.Random) -> Session:
         live = [row for row in session.state.mappings.values() if row.inner.protocol == TCP]
         step = rng.random()
         if step < 0.45 or not live:
-            session.segment_out(rng.choice(inners), rng.choice(remotes))
+            inner = rng.choice(inners)
+            session.segment_out(inner, session.remote_inside(inner) if step < 0.15 else rng.choice(remotes))
         elif step < 0.9:
             session.segment_in(rng.choice(live))
         else:
             session.add(TICK, b"")
+    return session
+
+
+def inward(rng: random.Random) -> Session:
+    """Subscribers that send to each other and to themselves, by places of the pool."""
+    session = Session(rng)
+    session.inward = 0.8
+    for _ in range(rng.randint(10, 100)):
+        step = rng.random()
+        (session.outbound if step < 0.85 else session.reply if step < 0.95 else session.other)()
     return session
 
 

@@ -22,39 +22,52 @@ struct Ending<'a> {
 
 // Blocks of 16 ports, and peers that are kept for two minutes.
 fn small_blocks<R: Abort + AllocGlobal>(rt: &R) -> Config {
-    let mut config = Config::defaults(rt.alloc()).expect(rt, "memory for a configuration");
+    let mut config = defaults(rt);
     config.block_size = 16;
     config.udp_ms = 120_000;
     config
 }
 
-// Runs over the first packet, and compares what is left.
-fn check_run<R: Abort + AllocGlobal>(rt: &R, config: Config, ending: &Ending<'_>) {
+/// What a run left.
+#[derive(Drop)]
+pub struct Left {
+    pub plant: MemPlant,
+    pub report: MemSink,
+}
+
+/// Runs with an accepted configuration over an input, whose bytes are hexadecimal digits, onto a log that was just made.
+pub fn run_with<R: Abort + AllocGlobal>(rt: &R, config: Config, input: &[&str]) -> Left {
     assert!(rt; config.accepted(), "an accepted configuration");
     assert_eq!(rt; config.ratio, 0);
-    let input = octets(rt, &FIRST);
+    let input = octets(rt, input);
     let mut inputs = [NoFaultSource::new(list_of(rt, &input))];
     let log = LogFile::Frames(&[]).bytes(rt);
     let mut plant = MemPlant::new(rt.alloc(), list_of(rt, &log), list_of(rt, &[]));
     let mut report = MemSink::new(rt.alloc(), list_of(rt, &[]));
     let _outcome = run_config(rt.alloc(), config, &mut inputs, &mut plant, &mut report);
-    compare(rt, &plant, &report, ending);
+    Left { plant, report }
 }
 
-fn compare<R: Abort + AllocGlobal>(
-    rt: &R,
-    plant: &MemPlant,
-    report: &MemSink,
-    ending: &Ending<'_>,
-) {
-    assert_eq!(rt; str::from_utf8(report.written()), Ok(ending.report));
-    assert_eq!(rt; plant.sent(), octets(rt, ending.sent).as_slice());
-    assert_eq!(rt; plant.content(), ending.log.bytes(rt).as_slice());
+/// The configuration of no keys.
+pub fn defaults<R: Abort + AllocGlobal>(rt: &R) -> Config {
+    Config::defaults(rt.alloc()).expect(rt, "memory for a configuration")
+}
+
+// Runs over the first packet, and compares what is left.
+fn check_run<R: Abort + AllocGlobal>(rt: &R, config: Config, ending: &Ending<'_>) {
+    let left = run_with(rt, config, &FIRST);
+    compare(rt, &left, ending);
+}
+
+fn compare<R: Abort + AllocGlobal>(rt: &R, left: &Left, ending: &Ending<'_>) {
+    assert_eq!(rt; str::from_utf8(left.report.written()), Ok(ending.report));
+    assert_eq!(rt; left.plant.sent(), octets(rt, ending.sent).as_slice());
+    assert_eq!(rt; left.plant.content(), ending.log.bytes(rt).as_slice());
 }
 
 #[test]
 fn the_default_configuration(rt: HostRuntime) {
-    let config = Config::defaults(rt.alloc()).expect(&rt, "memory for a configuration");
+    let config = defaults(&rt);
     let ending = Ending {
         report: ONE_SENT,
         sent: &[FIRST_SENT],
@@ -78,7 +91,7 @@ fn blocks_of_sixteen_ports(rt: HostRuntime) {
 
 // The log has 17 bytes, and the first packet's frame needs 147 more.
 fn limited_to<R: Abort + AllocGlobal>(rt: &R, log_limit: u64) -> Config {
-    let mut config = Config::defaults(rt.alloc()).expect(rt, "memory for a configuration");
+    let mut config = defaults(rt);
     config.log_limit = log_limit;
     config
 }

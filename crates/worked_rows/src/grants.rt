@@ -1,11 +1,9 @@
 //! Which places packets leave from under small quotas and blocks, and which are refused, also by a filter.
 
-use crate::logs::LogFile;
-use crate::octets::{list_of, octets};
+use crate::configs::{Left, defaults, run_with};
 use aftr_base::{Ip4, Prefix4};
-use aftr_engine::run_config;
 use cfg_text::{Config, Filter};
-use plant_mem::{MemPlant, MemSink, NoFaultSource};
+use plant_mem::MemPlant;
 use std::process::Abort;
 
 // The bytes of a frame with a sent packet of 32 bytes, and where its source stands in it.
@@ -76,15 +74,11 @@ fn run_packets<R: Abort + AllocGlobal>(
     packets: &Packets,
     report: &str,
 ) -> MemPlant {
-    assert!(rt; config.accepted(), "an accepted configuration");
-    assert_eq!(rt; config.ratio, 0);
-    let input = octets(rt, &[packets.input.as_str()]);
-    let mut inputs = [NoFaultSource::new(list_of(rt, &input))];
-    let log = LogFile::Frames(&[]).bytes(rt);
-    let mut plant = MemPlant::new(rt.alloc(), list_of(rt, &log), list_of(rt, &[]));
-    let mut sink = MemSink::new(rt.alloc(), list_of(rt, &[]));
-    let _outcome = run_config(rt.alloc(), config, &mut inputs, &mut plant, &mut sink);
-    assert_eq!(rt; str::from_utf8(sink.written()), Ok(report));
+    let Left {
+        plant,
+        report: printed,
+    } = run_with(rt, config, &[packets.input.as_str()]);
+    assert_eq!(rt; str::from_utf8(printed.written()), Ok(report));
     plant
 }
 
@@ -110,10 +104,6 @@ fn compare_places<R: Abort>(rt: &R, sent: &[u8], places: &[(u8, u16)]) {
         rest = after;
     }
     assert!(rt; rest.is_empty(), "no further packet");
-}
-
-fn defaults<R: Abort + AllocGlobal>(rt: &R) -> Config {
-    Config::defaults(rt.alloc()).expect(rt, "memory for a configuration")
 }
 
 // The addresses from 192.0.2.8 on, as many as a prefix of this length has.
@@ -276,4 +266,34 @@ fn a_filter_by_address(rt: HostRuntime) {
     let report = "records 4\nsent 2\nmarks 0\ndrop NoMapping 1\ndrop Filtered 1\n";
     let plant = run_packets(&rt, config, &packets, report);
     assert_eq!(rt; plant.sent().len(), SENT + 85);
+}
+
+// Packets to two remotes, and replies from both and from a third one, up to the end of each peer and at it.
+fn two_peers<R: Abort + AllocGlobal>(rt: &R) -> Packets {
+    let mut packets = Packets::new(rt);
+    packets.add(rt, 1_000_000, 0, 5000, 0);
+    packets.add(rt, 1_100_000, 0, 5000, 1);
+    packets.add_tick(rt, 1_299_999);
+    packets.add_reply(rt, 0, 53, 1024);
+    packets.add_tick(rt, 1_300_000);
+    packets.add_reply(rt, 0, 53, 1024);
+    packets.add_reply(rt, 4, 53, 1024);
+    packets.add_reply(rt, 1, 53, 1024);
+    packets.add_tick(rt, 1_400_000);
+    packets.add_reply(rt, 1, 53, 1024);
+    packets
+}
+
+#[test]
+fn a_filter_by_address_admits_live_peers_alone(rt: HostRuntime) {
+    let mut config = defaults(&rt);
+    config.filter = Filter::Address;
+    let report = "records 10\nsent 4\nmarks 0\ndrop NoMapping 1\ndrop Filtered 2\n";
+    let _plant = run_packets(&rt, config, &two_peers(&rt), report);
+}
+
+#[test]
+fn no_filter_asks_for_peers(rt: HostRuntime) {
+    let report = "records 10\nsent 6\nmarks 0\ndrop NoMapping 1\n";
+    let _plant = run_packets(&rt, defaults(&rt), &two_peers(&rt), report);
 }

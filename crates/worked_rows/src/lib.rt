@@ -45,6 +45,8 @@ mod restarts;
 #[cfg(test)]
 mod segments;
 #[cfg(test)]
+mod states;
+#[cfg(test)]
 mod stops;
 #[cfg(test)]
 mod words;
