@@ -1,4 +1,4 @@
--- ICMP errors that a translator makes (RFC 792, RFC 1191 4, RFC 6888 3, RFC 6333 6.6).
+-- ICMP errors that a translator makes (RFC 792, RFC 1191 4, RFC 6888 3, RFC 6333 6.5).
 use Rattle.std.specs.Prelude.{◌≡◌, ℕ, ◌+◌, Bool, true, false, ◌&&◌, ◌||◌, ◌==◌, List, [], ◌∷◌, ◌++◌, length, take, Ok, if◌then◌else◌}
 use Rattle.aftr_base.specs.Value.{ip4}
 use Rattle.aftr_base.specs.Bytes.{be16, be32}

@@ -13,7 +13,7 @@ use wire_ip4::{Ip4Fields, Ip4View, write_header};
 /// What a made error says.
 #[derive(Clone, Copy, Debug, PartialEq, Eq)]
 pub enum MadeError {
-    /// Host unreachable: type 3, code 1, where a mapping is refused (RFC 6888 section 3, REQ-4).
+    /// Host unreachable: type 3, code 1, where a mapping is refused (RFC 6888 section 3, REQ-11).
     HostUnreachable,
     /// Fragmentation needed and DF set: type 3, code 4, with the MTU of the next hop in bytes
     /// (RFC 1191 section 4).

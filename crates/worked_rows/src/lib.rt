@@ -21,6 +21,8 @@ mod first_path;
 #[cfg(test)]
 mod grants;
 #[cfg(test)]
+mod hairpins;
+#[cfg(test)]
 mod logs;
 #[cfg(test)]
 mod making;

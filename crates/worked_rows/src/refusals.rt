@@ -123,7 +123,7 @@ static TUNNELS: [Row; 8] = [
     ),
 ];
 
-static INNERS: [Row; 14] = [
+static INNERS: [Row; 13] = [
     (
         "version 6",
         "6500 0020 0001 0000 40 11 5ec4 c0000002 cb007105",
@@ -167,11 +167,6 @@ static INNERS: [Row; 14] = [
     (
         "GRE",
         "4500 0020 0001 0000 40 2f 7ea6 c0000002 cb007105",
-        NO_PROTOCOL,
-    ),
-    (
-        "to the pool",
-        "4500 0020 0001 0000 40 11 f8be c0000002 c000020b",
         NO_PROTOCOL,
     ),
     (
