@@ -35,7 +35,7 @@ use Rattle.egress_gate.proofs.WholeItems.{front_item, named_one, none_whole}
 use Rattle.aftr_engine.specs.session.Attributed.{EachStopIsAnswered}
 use Rattle.aftr_engine.specs.session.EndToEnd.{front_run, run_of, told_behind}
 use Rattle.egress_gate.specs.Senders.{NamesEachSender}
-use Rattle.xlate_core.specs.Sources.{source_of}
+use Rattle.xlate_core.specs.Sources.{sender_of, source_of}
 use Rattle.aftr_engine.specs.session.Stops.{IsAccounted}
 use Rattle.aftr_engine.proofs.Attribution.{names_front, valid_front}
 use Rattle.egress_gate.proofs.NamesApart.{all_ended, disjoint_name_one, names_are_holders, one_name_disjoint, with_ends}
@@ -43,7 +43,7 @@ use Rattle.egress_gate.proofs.NamesApart.{all_ended, disjoint_name_one, names_ar
 holds_sent : (c : Config) (told : Told) (n : ℕ) (input : List ℕ) {k : ℕ} {past file bytes : List ℕ} {i : Item} {owner : Subscriber}
     → NamesEachSender (told_behind told (front_run c told n input)) (front_run c told n input).items
     → IsAccounted told (front_run c told n input) past file bytes
-    → slice_get (run_of c told input).items k ≡ Some i → i.owner ≡ Some owner → IsWholeIn past bytes (run_of c told input).items k
+    → slice_get (run_of c told input).items k ≡ Some i → sender_of i ≡ Some owner → IsWholeIn past bytes (run_of c told input).items k
     → Holds file (source_of i).addr (source_of i).port i.at.0 (owner ∷ [])
 holds_sent c told n input {k} {past} {file} {bytes} {i} {owner} names is item owned whole =
     let events = (frames_of input).events in
@@ -125,7 +125,7 @@ module _ (c : Config) (input : List ℕ) (was : Told) (one : NamesOne was) (begi
 
   sent_named : (n : ℕ) {k : ℕ} {past file bytes : List ℕ} {i : Item} {owner : Subscriber}
       → IsAccounted (recovered was) (front_run c (recovered was) n input) past file bytes
-      → slice_get (run_of c (recovered was) input).items k ≡ Some i → i.owner ≡ Some owner
+      → slice_get (run_of c (recovered was) input).items k ≡ Some i → sender_of i ≡ Some owner
       → IsWholeIn past bytes (run_of c (recovered was) input).items k → Holds file (source_of i).addr (source_of i).port i.at.0 (owner ∷ [])
   sent_named n is item owned whole =
       holds_sent c (recovered was) n input (names_front c (recovered was) n input begins apart) is item owned whole

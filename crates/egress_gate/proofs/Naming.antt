@@ -1,5 +1,5 @@
 -- What a log names, by the leases that it tells, up to its horizon.
-use Rattle.std.proofs.Common.{◌≡◌, ℕ, ◌≤◌, Bool, true, cond, ◌&&◌, List, [], ◌∷◌, map, filter, nat_le, IfSome, Option, Some, None}
+use Rattle.std.proofs.Common.{◌≡◌, ℕ, ◌≤◌, Bool, true, false, cond, ◌&&◌, List, [], ◌∷◌, map, filter, nat_le, IfSome, Option, Some, None}
 use Rattle.std.proofs.Common.{Result, Ok, Err, refl, sym, ap, ◌∙◌}
 use Rattle.std.proofs.lemmas.Bool.{le-leb}
 use Rattle.aftr_base.specs.Told.{until_of}
@@ -14,7 +14,7 @@ use Rattle.xlate_core.specs.Laws.{IsAhead}
 use Rattle.xlate_core.specs.declared.step_out.Item.{Item}
 use Rattle.xlate_core.proofs.Holders.{holders, holds as holds_it}
 use Rattle.xlate_core.proofs.PacketSources.{IsNamed as IsHolder}
-use Rattle.xlate_core.specs.Sources.{source_of}
+use Rattle.xlate_core.specs.Sources.{sender_of, source_of}
 use Rattle.trace_query.specs.Names.{holds, names_of}
 use Rattle.egress_gate.specs.Logged.{Tells}
 use Rattle.egress_gate.specs.Senders.{IsNamed}
@@ -50,8 +50,15 @@ named_by : (t : Told) (o : Option Subscriber) (addr : Ip4) (port at : ℕ)
 named_by t None addr port at holder ahead = tt
 named_by t (Some owner) addr port at holder ahead = (names_same t addr port at ahead ∙ holder, ahead)
 
+-- whose place is shown, if anybody's
+ahead_by : (shows : Bool) (o : Option Subscriber) (horizon at : ℕ) → IfSome o (λ (owner : Subscriber). at ≤ horizon)
+    → IfSome (cond shows o None) (λ (owner : Subscriber). at ≤ horizon)
+ahead_by true o horizon at h = h
+ahead_by false o horizon at h = tt
+
 pub named_item : (t : Told) (i : Item) → IsHolder t.leases i → IsAhead t.horizon.0 i → IsNamed t i
-named_item t i holder ahead = named_by t i.owner (source_of i).addr (source_of i).port i.at.0 holder ahead
+named_item t i holder ahead =
+    named_by t (sender_of i) (source_of i).addr (source_of i).port i.at.0 holder (ahead_by _ i.owner t.horizon.0 i.at.0 ahead)
 
 -- ---- what a file tells is one thing
 

@@ -14,7 +14,7 @@ use Rattle.link_records.specs.Frames.{number_of}
 use Rattle.egress_gate.specs.Answered.{IsWholeIn}
 use Rattle.egress_gate.specs.Output.{item_bytes, output}
 use Rattle.egress_gate.specs.Senders.{IsNamed}
-use Rattle.xlate_core.specs.Sources.{source_of}
+use Rattle.xlate_core.specs.Sources.{sender_of, source_of}
 
 some_record : (i : Item) → 1 ≤ length (item_bytes i)
 some_record i =
@@ -58,7 +58,7 @@ front_item past bytes front rest count k i is whole item =
 
 -- ---- so it is named
 
-pub named_one : (told : Told) (i j : Item) (owner : Subscriber) → i ≡ j → IsNamed told j → i.owner ≡ Some owner
+pub named_one : (told : Told) (i j : Item) (owner : Subscriber) → i ≡ j → IsNamed told j → sender_of i ≡ Some owner
     → (names_of told (source_of i).addr (source_of i).port i.at.0 ≡ owner ∷ []) × (i.at.0 ≤ told.horizon.0)
 named_one told i j owner same named is =
     subst (λ (o : Option Subscriber). IfSome o (λ (s : Subscriber).

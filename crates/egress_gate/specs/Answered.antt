@@ -16,7 +16,7 @@ use Rattle.xlate_core.specs.Step.{log_of}
 use Rattle.xlate_core.specs.Valid.{IsStart}
 use Rattle.xlate_core.specs.declared.step_out.Item.{Item}
 use Rattle.egress_gate.specs.Output.{output}
-use Rattle.xlate_core.specs.Sources.{source_of}
+use Rattle.xlate_core.specs.Sources.{sender_of, source_of}
 
 -- of what was sent since, the k-th item's record is there to its end
 pub record IsWholeIn (past bytes : List ℕ) (items : List Item) (k : ℕ) : Type 0 where
@@ -30,7 +30,7 @@ pub record IsWholeIn (past bytes : List ℕ) (items : List Item) (k : ℕ) : Typ
 abbrev pub NamesEachSent : Story → Story → List Item → Type 0
 NamesEachSent before now items =
     (file bytes : List ℕ) → LeftSince now (length before) file bytes → (k : ℕ) (i : Item) (owner : Subscriber)
-    → slice_get items k ≡ Some i → i.owner ≡ Some owner → IsWholeIn (sent before) bytes items k
+    → slice_get items k ≡ Some i → sender_of i ≡ Some owner → IsWholeIn (sent before) bytes items k
     → Holds file (source_of i).addr (source_of i).port i.at.0 (owner ∷ [])
 
 -- a state that a run comes to, from what a log told with all its rows closed

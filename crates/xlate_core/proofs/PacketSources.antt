@@ -1,6 +1,8 @@
 -- Each packet that goes out has its source in an open lease of its subscriber, which all later leases name, and no other.
-use Rattle.std.proofs.Common.{◌≡◌, ℕ, ◌^◌, ◌<◌, ◌≤◌, true, List, [], ◌∷◌, ◌++◌, length, Option, Some, None, IfSome, All, option_to_list, refl, sym, ◌∙◌, subst, arith, ap₂}
+use Rattle.std.proofs.Common.{◌≡◌, ℕ, ◌^◌, ◌<◌, ◌≤◌, ◌==◌, Bool, true, false, not, ap, List, [], ◌∷◌, ◌++◌, length, Option, Some, None, IfSome, All, option_to_list, refl, sym, ◌∙◌, subst, arith, ap₂}
 use Rattle.std.proofs.lemmas.List.Elements.{All-weaker, All-nil, All-cons, All-append}
+use Rattle.std.specs.Prelude.{if◌then◌else◌}
+use Rattle.aftr_base.specs.Bytes.{u8_at}
 use Rattle.aftr_base.specs.Value.{ip4, place}
 use Rattle.aftr_base.specs.declared.value.Ext.{Ext}
 use Rattle.aftr_base.specs.declared.value.Subscriber.{Subscriber}
@@ -15,7 +17,7 @@ use Rattle.xlate_core.specs.declared.step_out.Item.{Item}
 use Rattle.xlate_core.specs.State.{State, Step}
 use Rattle.softwire.specs.Tunnel.{tunnel_fields}
 use Rattle.nat_mapping.specs.Rows.{Mapping}
-use Rattle.xlate_core.specs.Sources.{source_of}
+use Rattle.xlate_core.specs.Sources.{sender_of, source_of}
 use Rattle.xlate_core.specs.Datagram.{datagram_bytes, hairpinned, inner_place, translated}
 use Rattle.xlate_core.specs.Outbound.{Outbound}
 use Rattle.xlate_core.specs.Expiry.{at_moment}
@@ -28,7 +30,7 @@ use Rattle.xlate_core.proofs.LeasesOver.{AreLater, later_run}
 use Rattle.xlate_core.proofs.Reached.{IsReached, reached_moment, reached_start, reached_step}
 use Rattle.xlate_core.proofs.ValidForwards.{place_granted}
 use Rattle.xlate_core.proofs.ValidStates.{grant_out}
-use Rattle.xlate_core.proofs.WirePlaces.{address_back, address_out, behind_address, behind_port, place_fits, port_back, port_out, wire_grant}
+use Rattle.xlate_core.proofs.WirePlaces.{address_back, address_out, behind_address, behind_port, behind_proto, place_fits, port_back, port_out, proto_back, wire_grant}
 use Rattle.xlate_core.proofs.Packets.{sent_outward}
 use Rattle.xlate_core.proofs.Treatments.{IsOut, by_way}
 use Rattle.xlate_core.proofs.ValidRows.{lies_at}
@@ -37,7 +39,7 @@ use Rattle.xlate_core.proofs.ValidRows.{lies_at}
 
 -- a subscriber's packet has its source in an open lease of the subscriber
 abbrev pub IsFromLease : List LeaseRow → Item → Type 0
-IsFromLease leases i = IfSome i.owner (λ (owner : Subscriber). lies_at leases owner (source_of i) ≡ true)
+IsFromLease leases i = IfSome (sender_of i) (λ (owner : Subscriber). lies_at leases owner (source_of i) ≡ true)
 
 -- the place of a grant is in an open lease of the sender then, and fits into the headers
 placed : {s : State} {bytes : List ℕ} {got : Outbound} {g : Grant} → IsReached s → IsOut s bytes got g
@@ -59,18 +61,34 @@ source_out {s = s} {got = got} {g = g} h by =
     let port = port_out g.place got.datagram (sent_outward by).whole high in
     ap₂ (λ (a p : ℕ). lies_at after got.who.owner (place (ip4 a) p)) addr port ∙ there
 
+-- one of nobody's has none
+nobody : (P : Subscriber → Type 0) (query : Bool) → IfSome (if not query then None else None) P
+nobody P true = tt
+nobody P false = tt
+
+-- a packet between subscribers shows it, unless it is an echo message
+shown_by : (P : Subscriber → Type 0) (owner : Subscriber) (query : Bool) → (query ≡ false → P owner)
+    → IfSome (if not query then Some owner else None) P
+shown_by P owner true h = tt
+shown_by P owner false h = h refl
+
 source_back : {s : State} {bytes : List ℕ} {got : Outbound} {g : Grant} (row : Mapping) → IsReached s → IsOut s bytes got g
-    → lies_at (s.leases ++ option_to_list g.lease) got.who.owner
-    (source_of (item s SoftwireSide (Some got.who.owner) (hairpin_bytes s got g row))) ≡ true
+    → IsFromLease (s.leases ++ option_to_list g.lease) (item s SoftwireSide (Some got.who.owner) (hairpin_bytes s got g row))
 source_back {s = s} {got = got} {g = g} row h by =
     let after = s.leases ++ option_to_list g.lease in
     let d = got.datagram in
-    let inner = datagram_bytes (hairpinned g.place (inner_place row.key) d) in
+    let place_in = inner_place row.key in
+    let inner = datagram_bytes (hairpinned g.place place_in d) in
     let f = tunnel_fields s.config.aftr row.key.softwire d.header.fields.tos 4 (length inner) in
+    let sent = item s SoftwireSide (Some got.who.owner) (hairpin_bytes s got g row) in
     let (there, low, high) = placed h by in
-    let addr = behind_address f inner ∙ address_back g.place (inner_place row.key) d low in
-    let port = behind_port f inner ∙ port_back g.place (inner_place row.key) d (sent_outward by).whole high in
-    ap₂ (λ (a p : ℕ). lies_at after got.who.owner (place (ip4 a) p)) addr port ∙ there
+    let proto = behind_proto f inner ∙ proto_back g.place place_in d in
+    shown_by (λ (owner : Subscriber). lies_at after owner (source_of sent) ≡ true) got.who.owner
+    (u8_at 49 (hairpin_bytes s got g row) == 1) (λ other.
+    let ports = ap (λ (n : ℕ). n == 1) (sym proto) ∙ other in
+    let addr = behind_address f inner ∙ address_back g.place place_in d low in
+    let port = behind_port f inner ∙ port_back g.place place_in d (sent_outward by).whole ports high in
+    ap₂ (λ (a p : ℕ). lies_at after got.who.owner (place (ip4 a) p)) addr port ∙ there)
 
 one_item : (P : Item → Type 0) (i : Item) → P i → All P (i ∷ [])
 one_item P i h = All-cons P i [] h (All-nil P)
@@ -81,7 +99,7 @@ pub source_treated : (s : State) (bytes : List ℕ) (kind : EventKind) → IsRea
 source_treated s bytes kind h = by_way (λ (t : Step). All (IsFromLease t.state.leases) t.items) s bytes kind (record {
   rests = All-nil (IsFromLease s.leases);
   drops = λ cause. All-nil (IsFromLease s.leases);
-  delivers = λ d row by. one_item (IsFromLease s.leases) (item s SoftwireSide None (delivered_bytes s d row)) tt;
+  delivers = λ d row by. one_item (IsFromLease s.leases) (item s SoftwireSide None (delivered_bytes s d row)) (nobody _ (u8_at 49 (delivered_bytes s d row) == 1));
   forwards = λ got g by abroad.
       let bytes_out = datagram_bytes (translated true g.place got.datagram) in
       one_item (IsFromLease (sent_out s got g).state.leases) (item s PublicSide (Some got.who.owner) bytes_out) (source_out h by);
@@ -119,7 +137,7 @@ IsHeldAt leases at e o = IfSome o (λ (owner : Subscriber). IsHeld leases owner 
 
 pub record IsKept (s : State) (i : Item) : Type 0 where
   pub sent : i.at.0 ≤ s.clock
-  pub held : IsHeldAt s.leases i.at.0 (source_of i) i.owner
+  pub held : IsHeldAt s.leases i.at.0 (source_of i) (sender_of i)
 
 later_by : (s t : State) (at : ℕ) (e : Ext) (o : Option Subscriber) → AreLater s t → at ≤ s.clock → IsHeldAt s.leases at e o
     → IsHeldAt t.leases at e o
@@ -129,7 +147,7 @@ later_by s t at e (Some owner) later le h = held_later owner e.addr e.port at la
 pub kept_later : {s t : State} {i : Item} → AreLater s t → IsKept s i → IsKept t i
 kept_later {s = s} {t = t} {i = i} later h = record {
   sent = omega (arith, h.sent, later.clock);
-  held = later_by s t i.at.0 (source_of i) i.owner later h.sent h.held;
+  held = later_by s t i.at.0 (source_of i) (sender_of i) later h.sent h.held;
 }
 
 now_by : (s : State) (at : ℕ) (e : Ext) (o : Option Subscriber) → at ≡ s.clock → IsConsistent s
@@ -139,7 +157,7 @@ now_by s at e (Some owner) now v h =
     subst (λ (n : ℕ). IsHeld s.leases owner e.addr e.port n) (sym now) (held_now s owner e v h)
 
 pub kept_now : (s : State) (i : Item) → IsConsistent s → IsAt s.clock i → IsFromLease s.leases i → IsKept s i
-kept_now s i v now h = record { sent = omega (arith, now); held = now_by s i.at.0 (source_of i) i.owner now v h }
+kept_now s i v now h = record { sent = omega (arith, now); held = now_by s i.at.0 (source_of i) (sender_of i) now v h }
 
 pub kept_step : (s : State) (e : Event) → IsReached s → All (IsKept (step s e).state) (step s e).items
 kept_step s e h =
@@ -162,7 +180,7 @@ kept_run s (e ∷ es) h =
 
 abbrev pub IsNamed : List LeaseRow → Item → Type 0
 IsNamed leases i =
-    IfSome i.owner (λ (owner : Subscriber). holders leases (source_of i).addr (source_of i).port i.at.0 ≡ owner ∷ [])
+    IfSome (sender_of i) (λ (owner : Subscriber). holders leases (source_of i).addr (source_of i).port i.at.0 ≡ owner ∷ [])
 
 named_by : (leases : List LeaseRow) (at : ℕ) (e : Ext) (o : Option Subscriber) → AreDisjoint leases → IsHeldAt leases at e o
     → IfSome o (λ (owner : Subscriber). holders leases e.addr e.port at ≡ owner ∷ [])
@@ -170,7 +188,7 @@ named_by leases at e None apart h = tt
 named_by leases at e (Some owner) apart h = sole_holder leases owner e.addr e.port at apart h
 
 pub kept_named : (s : State) (i : Item) → AreDisjoint s.leases → IsKept s i → IsNamed s.leases i
-kept_named s i apart h = named_by s.leases i.at.0 (source_of i) i.owner apart h.held
+kept_named s i apart h = named_by s.leases i.at.0 (source_of i) (sender_of i) apart h.held
 
 pub names_run : (s : State) (events : List Event) → IsReached s → AreDisjoint s.leases
     → All (IsNamed (run s events).state.leases) (run s events).items

@@ -13,7 +13,7 @@ use Rattle.aftr_base.specs.declared.value.Moment.{Moment}
 use Rattle.aftr_base.specs.declared.value.Subscriber.{Subscriber}
 use Rattle.aftr_base.specs.declared.row.LeaseRow.{LeaseRow}
 use Rattle.aftr_base.specs.declared.event.DropCause.{DropCause}
-use Rattle.aftr_base.specs.declared.event.DropCause.TheVariants.{QuotaMappings, QuotaPeers, QuotaBlocks}
+use Rattle.aftr_base.specs.declared.event.DropCause.TheVariants.{NoMapping, QuotaMappings, QuotaPeers, QuotaBlocks}
 use Rattle.cfg_text.specs.declared.config.Config.{Config}
 use Rattle.nat_mapping.specs.Rows.{Mapping}
 use Rattle.nat_mapping.specs.Rows.{has_peer, has_place, is_at, least_free}
@@ -88,7 +88,8 @@ case_place s f g (Some ext) none e h = Takes ext none e (sym (given_inj (at_once
 
 case_new : (s : State) (f : Flow) (g : Grant) → find_out f.key s.rows ≡ None → place_for s f ≡ Ok g → GrantCase s f g
 case_new s f g none h =
-    let mapped = (test_passed (may_map (usage_of s f.who.owner) s.config) QuotaMappings _ g h).1 in
+    let asked = (test_passed (not f.answers) NoMapping _ g h).1 in
+    let mapped = (test_passed (may_map (usage_of s f.who.owner) s.config) QuotaMappings _ g asked).1 in
     let peered = (test_passed (may_peer (usage_of s f.who.owner) s.config) QuotaPeers _ g mapped).1 in
     case_place s f g (place_in_lease s f) none refl peered
 

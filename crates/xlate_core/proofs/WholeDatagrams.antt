@@ -17,10 +17,10 @@ use Rattle.wire_l4.specs.Grammar.{Segment, Echo, Transport, Ports, Query, segmen
 use Rattle.wire_l4.specs.Places.{replaced, segment_sum}
 use Rattle.xlate_core.specs.State.{is_ours}
 use Rattle.xlate_core.specs.Datagram.{Datagram, datagram_bytes, hairpinned, translated, place_on}
-use Rattle.xlate_core.specs.Packet.{plain_ip4, proto_from, datagram_of, has_route, is_routable}
+use Rattle.xlate_core.specs.Packet.{plain_ip4, proto_from, datagram_of, has_route, is_routable, transport_from}
 use Rattle.xlate_core.specs.Outbound.{outward}
 use Rattle.xlate_core.specs.Inbound.{inbound_of}
-use Rattle.xlate_core.proofs.Transports.{IsRead, is_read}
+use Rattle.xlate_core.proofs.Transports.{HasBody, IsRead, is_read, length_echo, length_segment}
 use Rattle.xlate_core.proofs.Attempts.{step_gave, test_passed, gave_anyway, ok_inj}
 
 -- ---- an IPv4 packet
@@ -86,59 +86,38 @@ unfolding be16
 length_sum None f = refl
 length_sum (Some n) f = refl
 
-length_word : (n : ℕ) → length (sum_bytes (Some n)) ≡ 2
-unfolding be16
-length_word n = refl
-
-length_segment : (s : Segment) → length (segment_bytes s) ≡ 4 + length s.fixed + length (sum_bytes s.sum) + length s.rest
-unfolding be16
-length_segment s = omega (arith, length-append (s.fixed ++ sum_bytes s.sum) s.rest, length-append s.fixed (sum_bytes s.sum))
-
-length_read : (at : ℕ) (bytes : List ℕ) → 4 ≤ at → at + 2 ≤ length bytes
-    → length (segment_bytes (segment_at at bytes)) ≡ length bytes
-length_read at bytes least most =
-    let whole = length_segment (segment_at at bytes) in
-    let sum : length (sum_bytes (segment_at at bytes).sum) ≡ 2 = length_word (u16_at at bytes) in
-    omega (arith, whole, sum, length-take (at - 4) (drop 4 bytes), length-drop 4 bytes, length-drop (at + 2) bytes, least, most)
-
 -- a datagram that came whole, in a packet without options that may be forwarded
 pub record IsWhole (d : Datagram) : Type 0 where
   pub options : d.header.options ≡ []
   pub more : d.header.fields.more ≡ false
   pub offset : d.header.fields.offset ≡ 0
   pub ttl : 2 ≤ d.header.fields.ttl
-  pub proto : Proto
-  pub segment : Segment
-  pub body : d.body ≡ Ports proto segment
+  pub body : HasBody d.header.fields.proto d.body
   pub total : d.header.fields.total ≡ 20 + length (transport_bytes d.body)
 
 abbrev datagram_with : Header → Transport → Datagram
 datagram_with h t = record { header = h; body = t }
 
-read_whole : (p : Header × List ℕ) (proto : Proto) (t : Transport) → IsPlain p → is_piece p.0 ≡ false → 2 ≤ p.0.fields.ttl
-    → IsRead proto p.1 t → IsWhole (datagram_with p.0 t)
-read_whole p proto t plain unbroken ttl is =
+read_whole : (p : Header × List ℕ) (t : Transport) → IsPlain p → is_piece p.0 ≡ false → 2 ≤ p.0.fields.ttl
+    → IsRead p.0.fields.proto p.1 t → IsWhole (datagram_with p.0 t)
+read_whole p t plain unbroken ttl is =
     let pieces = or_parts p.0.fields.more (nat_lt 0 p.0.fields.offset) unbroken in
-    let len = ap (λ (x : Transport). length (transport_bytes x)) is.is ∙ length_read is.at p.1 is.least is.most in
     record {
       options = plain.options;
       more = pieces.0;
       offset = omega (arith, ltb-false 0 p.0.fields.offset pieces.1);
       ttl = ttl;
-      proto = proto;
-      segment = segment_at is.at p.1;
-      body = is.is;
-      total = omega (arith, plain.total, len);
+      body = is.body;
+      total = omega (arith, plain.total, is.size);
     }
 
 is_whole : (p : Header × List ℕ) (d : Datagram) → IsPlain p → is_piece p.0 ≡ false → datagram_of p ≡ Ok d → IsWhole d
 is_whole p d plain unbroken h =
     let (proto, known, next) = step_gave (proto_from p.0.fields.proto) _ d h in
     let (ttl, next') = test_passed (nat_le 2 p.0.fields.ttl) _ _ d next in
-    let (t, holds, same) = step_gave (refused_as (transport_of proto p.1) BadPacket) _ d next' in
-    let is = is_read p.0.fields.proto proto p.1 t known (gave_anyway (transport_of proto p.1) BadPacket t holds) in
+    let (t, holds, same) = step_gave (transport_from proto p.1) _ d next' in
     subst IsWhole (ok_inj (datagram_with p.0 t) d _ refl same)
-    (read_whole p proto t plain unbroken (leb-true 2 p.0.fields.ttl ttl) is)
+    (read_whole p t plain unbroken (leb-true 2 p.0.fields.ttl ttl) (is_read p.0.fields.proto proto p.1 t known holds))
 
 -- ---- either way
 
@@ -156,7 +135,7 @@ header_kept : (p : Header × List ℕ) (d : Datagram) → datagram_of p ≡ Ok d
 header_kept p d h =
     let (proto, known, next) = step_gave (proto_from p.0.fields.proto) _ d h in
     let next' = (test_passed (nat_le 2 p.0.fields.ttl) _ _ d next).1 in
-    let (t, holds, same) = step_gave (refused_as (transport_of proto p.1) BadPacket) _ d next' in
+    let (t, holds, same) = step_gave (transport_from proto p.1) _ d next' in
     ap (λ (x : Datagram). x.header) (ok_inj (datagram_with p.0 t) d _ refl same)
 
 pub is_outward : (c : Config) (inner : List ℕ) (d : Datagram) → outward c inner ≡ Ok d → IsOutward c d
@@ -203,10 +182,6 @@ is_inward c bytes d h =
 length_header : (h : Header) (rest : List ℕ) → length (header_bytes h ++ rest) ≡ 20 + length h.options + length rest
 unfolding be16 be32
 length_header h rest = omega (arith, length-append h.options rest)
-
-length_echo : (e : Echo) → length (transport_bytes (Query e)) ≡ 6 + length e.rest
-unfolding be16
-length_echo e = omega arith
 
 -- the transport stays as long as it was
 length_replaced : (source : Bool) (old new : Ext) (t : Transport)

@@ -1,10 +1,13 @@
 -- Places of leases fit into an IPv4 header and a UDP header, and are read back from there.
-use Rattle.std.proofs.Common.{◌≡◌, ℕ, ◌^◌, ◌<◌, ◌≤◌, true, false, List, [], ◌++◌, option_map, option_to_list, None}
+use Rattle.std.proofs.Common.{◌≡◌, ℕ, ◌+◌, ◌^◌, ◌<◌, ◌≤◌, ◌==◌, Bool, true, false, List, [], ◌∷◌, ◌++◌, option_map, option_to_list, None}
 use Rattle.std.proofs.Common.{All, refl, sym, ap, ◌∙◌, subst, arith}
 use Rattle.std.specs.Prelude.{IfSome}
 use Rattle.std.proofs.lemmas.List.Elements.{All-weaker, All-nil, All-cons, All-append}
 use Rattle.std.proofs.lemmas.Nat.{from_be_bytes-to_be_bytes_2, from_be_bytes-to_be_bytes_4}
-use Rattle.aftr_base.specs.Bytes.{u16_at, u32_at, be16, be32, be128}
+use Rattle.std.specs.Prelude.{if◌then◌else◌}
+use Rattle.std.proofs.lemmas.Bool.{both_ways, eq-eqb}
+use Rattle.aftr_base.specs.Bytes.{u8_at, u16_at, u32_at, be16, be32, be128}
+use Rattle.aftr_base.specs.Checksum.{adjusted}
 use Rattle.aftr_base.specs.Value.{moment}
 use Rattle.aftr_base.specs.Plan.{is_prefix6}
 use Rattle.aftr_base.specs.declared.value.Ext.{Ext}
@@ -20,7 +23,7 @@ use Rattle.cfg_text.proofs.Facts.{facts}
 use Rattle.wire_ip4.specs.Grammar.{Header, header_bytes}
 use Rattle.wire_ip6.specs.declared.fields.Ip6Fields.{Ip6Fields}
 use Rattle.wire_ip6.specs.Grammar.{header_bytes as tunnel_header}
-use Rattle.wire_l4.specs.Grammar.{Segment, Transport, Ports, segment_bytes, transport_bytes}
+use Rattle.wire_l4.specs.Grammar.{Segment, Echo, Transport, Ports, Query, echo_bytes, segment_bytes, transport_bytes}
 use Rattle.wire_l4.specs.Places.{segment_sum}
 use Rattle.nat_mapping.specs.Rows.{Mapping}
 use Rattle.xlate_core.specs.declared.grant.Grant.{Grant}
@@ -36,6 +39,8 @@ use Rattle.xlate_core.specs.Grant.{after_grant}
 use Rattle.xlate_core.specs.Datagram.{Datagram, datagram_bytes, hairpinned, place_on, translated}
 use Rattle.xlate_core.specs.Step.{step, treatment}
 use Rattle.xlate_core.proofs.Clock.{by_moment}
+use Rattle.xlate_core.specs.Sources.{port_offset}
+use Rattle.xlate_core.proofs.Transports.{HasBody, IsPorts, IsQuery}
 use Rattle.xlate_core.proofs.WholeDatagrams.{IsWhole}
 use Rattle.xlate_core.proofs.Treatments.{by_way}
 use Rattle.xlate_core.proofs.ValidExpiry.{here_parts, lies_here, MayEnd, Lasts, Idle, idle_end}
@@ -65,17 +70,49 @@ address_out e d lt = address_read (translated true e d).header (transport_bytes 
 abbrev with_body : Datagram → Transport → Datagram
 with_body d t = record d { body = t }
 
-port_of_ports : (e : Ext) (d : Datagram) (p : Proto) (s : Segment) → d.header.options ≡ [] → e.port < 2 ^ 16
-    → u16_at 20 (datagram_bytes (translated true e (with_body d (Ports p s)))) ≡ e.port
-port_of_ports e d p s bare lt =
+-- which protocol a packet is of is read as well
+proto_read : (h : Header) (rest : List ℕ) → u8_at 9 (header_bytes h ++ rest) ≡ h.fields.proto
+unfolding be16 be32
+proto_read h rest = refl
+
+bare_id : (h : Header) (e : Echo) → e.id < 2 ^ 16 → u16_at 24 (header_bytes (record h { options = [] }) ++ echo_bytes e) ≡ e.id
+unfolding be16 be32
+bare_id h e lt = from_be_bytes-to_be_bytes_2 e.id lt
+
+id_read : (h : Header) (e : Echo) → h.options ≡ [] → e.id < 2 ^ 16 → u16_at 24 (header_bytes h ++ echo_bytes e) ≡ e.id
+id_read h e bare lt = ap (λ (o : List ℕ). u16_at 24 (header_bytes (record h { options = o }) ++ echo_bytes e)) bare ∙ bare_id h e lt
+
+-- the source port or the identifier of a packet
+abbrev pub port_in : List ℕ → ℕ
+port_in bytes = u16_at (port_offset 0 (u8_at 9 bytes)) bytes
+
+abbrev at_offset : Bool → List ℕ → ℕ
+at_offset query bytes = u16_at (if query then 24 else 20) bytes
+
+-- by which of them the protocol has
+port_by : (h : Header) (t : Transport) (port : ℕ) (query : Bool) → (h.fields.proto == 1) ≡ query
+    → at_offset query (header_bytes h ++ transport_bytes t) ≡ port → port_in (header_bytes h ++ transport_bytes t) ≡ port
+port_by h t port query known there =
+    ap (λ (n : ℕ). at_offset (n == 1) (header_bytes h ++ transport_bytes t)) (proto_read h (transport_bytes t))
+    ∙ ap (λ (b : Bool). at_offset b (header_bytes h ++ transport_bytes t)) known ∙ there
+
+out_of : (e : Ext) (d : Datagram) (t : Transport) → HasBody d.header.fields.proto t → d.header.options ≡ [] → e.port < 2 ^ 16
+    → port_in (datagram_bytes (translated true e (with_body d t))) ≡ e.port
+out_of e d t (IsPorts p s is other) bare lt =
     let before = with_body d (Ports p s) in
     let after : Segment = record s { src = e.port; sum = option_map (segment_sum p (place_on true before) e) s.sum } in
-    port_read (translated true e before).header after bare lt
+    let h = (translated true e before).header in
+    ap (λ (x : Transport). port_in (datagram_bytes (translated true e (with_body d x)))) is
+    ∙ port_by h (Ports p after) e.port false other (port_read h after bare lt)
+out_of e d t (IsQuery q is one) bare lt =
+    let before = with_body d (Query q) in
+    let after : Echo = record q { id = e.port; sum = adjusted q.sum (q.id ∷ []) (e.port ∷ []) } in
+    let h = (translated true e before).header in
+    ap (λ (x : Transport). port_in (datagram_bytes (translated true e (with_body d x)))) is
+    ∙ port_by h (Query after) e.port true (eq-eqb d.header.fields.proto 1 one) (id_read h after bare lt)
 
-pub port_out : (e : Ext) (d : Datagram) → IsWhole d → e.port < 2 ^ 16 → u16_at 20 (datagram_bytes (translated true e d)) ≡ e.port
-port_out e d is lt =
-    ap (λ (t : Transport). u16_at 20 (datagram_bytes (translated true e (with_body d t)))) is.body
-    ∙ port_of_ports e d is.proto is.segment is.options lt
+pub port_out : (e : Ext) (d : Datagram) → IsWhole d → e.port < 2 ^ 16 → port_in (datagram_bytes (translated true e d)) ≡ e.port
+port_out e d is lt = out_of e d d.body is.body is.options lt
 
 -- ---- in a packet that turned back
 
@@ -84,27 +121,44 @@ pub behind_address : (f : Ip6Fields) (inner : List ℕ) → u32_at 52 (tunnel_he
 unfolding be16 be32 be128
 behind_address f inner = refl
 
-pub behind_port : (f : Ip6Fields) (inner : List ℕ) → u16_at 60 (tunnel_header f ++ inner) ≡ u16_at 20 inner
+pub behind_proto : (f : Ip6Fields) (inner : List ℕ) → u8_at 49 (tunnel_header f ++ inner) ≡ u8_at 9 inner
 unfolding be16 be32 be128
-behind_port f inner = refl
+behind_proto f inner = refl
+
+port_behind : (f : Ip6Fields) (inner : List ℕ) (query : Bool)
+    → u16_at (if query then 64 else 60) (tunnel_header f ++ inner) ≡ at_offset query inner
+unfolding be16 be32 be128
+port_behind f inner true = refl
+port_behind f inner false = refl
+
+pub behind_port : (f : Ip6Fields) (inner : List ℕ)
+    → u16_at (port_offset 40 (u8_at 49 (tunnel_header f ++ inner))) (tunnel_header f ++ inner) ≡ port_in inner
+behind_port f inner =
+    ap (λ (n : ℕ). u16_at (port_offset 40 n) (tunnel_header f ++ inner)) (behind_proto f inner)
+    ∙ port_behind f inner (u8_at 9 inner == 1)
 
 pub address_back : (src dst : Ext) (d : Datagram) → src.addr.0 < 2 ^ 32 → u32_at 12 (datagram_bytes (hairpinned src dst d)) ≡ src.addr.0
 address_back src dst d lt = address_read (hairpinned src dst d).header (transport_bytes (hairpinned src dst d).body) lt
 
-back_of_ports : (src dst : Ext) (d : Datagram) (p : Proto) (s : Segment) → d.header.options ≡ [] → src.port < 2 ^ 16
-    → u16_at 20 (datagram_bytes (hairpinned src dst (with_body d (Ports p s)))) ≡ src.port
-back_of_ports src dst d p s bare lt =
+back_of : (src dst : Ext) (d : Datagram) (t : Transport) → HasBody d.header.fields.proto t → (d.header.fields.proto == 1) ≡ false
+    → d.header.options ≡ [] → src.port < 2 ^ 16 → port_in (datagram_bytes (hairpinned src dst (with_body d t))) ≡ src.port
+back_of src dst d t (IsQuery e is one) other bare lt = absurd (both_ways (d.header.fields.proto == 1) other (eq-eqb d.header.fields.proto 1 one))
+back_of src dst d t (IsPorts p s is also) other bare lt =
     let before = with_body d (Ports p s) in
     let out : Segment = record s { src = src.port; sum = option_map (segment_sum p (place_on true before) src) s.sum } in
     let turned = translated true src before in
     let after : Segment = record out { dst = dst.port; sum = option_map (segment_sum p (place_on false turned) dst) out.sum } in
-    port_read (hairpinned src dst before).header after bare lt
+    let h = (hairpinned src dst before).header in
+    ap (λ (x : Transport). port_in (datagram_bytes (hairpinned src dst (with_body d x)))) is
+    ∙ port_by h (Ports p after) src.port false other (port_read h after bare lt)
 
-pub port_back : (src dst : Ext) (d : Datagram) → IsWhole d → src.port < 2 ^ 16
-    → u16_at 20 (datagram_bytes (hairpinned src dst d)) ≡ src.port
-port_back src dst d is lt =
-    ap (λ (t : Transport). u16_at 20 (datagram_bytes (hairpinned src dst (with_body d t)))) is.body
-    ∙ back_of_ports src dst d is.proto is.segment is.options lt
+-- but of an echo message
+pub port_back : (src dst : Ext) (d : Datagram) → IsWhole d → (d.header.fields.proto == 1) ≡ false → src.port < 2 ^ 16
+    → port_in (datagram_bytes (hairpinned src dst d)) ≡ src.port
+port_back src dst d is other lt = back_of src dst d d.body is.body other is.options lt
+
+pub proto_back : (src dst : Ext) (d : Datagram) → u8_at 9 (datagram_bytes (hairpinned src dst d)) ≡ d.header.fields.proto
+proto_back src dst d = proto_read (hairpinned src dst d).header (transport_bytes (hairpinned src dst d).body)
 
 -- ---- a lease's owner is a prefix, and its address and ports are numbers of 32 and of 16 bits
 

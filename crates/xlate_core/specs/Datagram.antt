@@ -1,5 +1,5 @@
 -- Whole datagrams and their translation, either way (RFC 3022 4, RFC 4787 4).
-use Rattle.std.specs.Prelude.{ℕ, Bool, true, false, List, ◌++◌}
+use Rattle.std.specs.Prelude.{ℕ, Bool, true, false, ◌==◌, List, ◌++◌}
 use Rattle.aftr_base.specs.Value.{place}
 use Rattle.aftr_base.specs.declared.value.Ip6.{Ip6}
 use Rattle.aftr_base.specs.declared.value.Ext.{Ext}
@@ -32,6 +32,11 @@ flags_of (Ports Tcp s) = tcp_flags s
 flags_of (Ports Udp s) = 0
 flags_of (Ports Icmp s) = 0
 flags_of (Query e) = 0
+
+-- an answer to an echo request
+abbrev pub is_answer : Transport → Bool
+is_answer (Ports p s) = false
+is_answer (Query e) = e.kind == 0
 
 -- the place of a mapping behind its softwire
 abbrev pub inner_place : InnerKey → Ext

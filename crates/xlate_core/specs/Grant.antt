@@ -1,5 +1,5 @@
 -- Which place a mapping gets (RFC 4787 4, RFC 6888 3), and the first reason why it gets none.
-use Rattle.std.specs.Prelude.{true, ◌||◌, List, [], ◌∷◌, ◌++◌, length, map, Option, Some, None, is_some}
+use Rattle.std.specs.Prelude.{true, not, ◌||◌, List, [], ◌∷◌, ◌++◌, length, map, Option, Some, None, is_some}
 use Rattle.std.specs.Prelude.{option_map, option_to_list, Result, Ok, Err, if◌then◌else◌}
 use Rattle.aftr_base.specs.Attempt.{◌>>◌, require, first_some}
 use Rattle.aftr_base.specs.Row.{block_event}
@@ -10,7 +10,7 @@ use Rattle.aftr_base.specs.declared.value.Subscriber.{Subscriber}
 use Rattle.aftr_base.specs.declared.row.LeaseRow.{LeaseRow}
 use Rattle.aftr_base.specs.declared.event.LogEvent.{LogEvent}
 use Rattle.aftr_base.specs.declared.event.DropCause.{DropCause}
-use Rattle.aftr_base.specs.declared.event.DropCause.TheVariants.{QuotaMappings, QuotaPeers, QuotaBlocks}
+use Rattle.aftr_base.specs.declared.event.DropCause.TheVariants.{NoMapping, QuotaMappings, QuotaPeers, QuotaBlocks}
 use Rattle.aftr_base.specs.declared.event.DropCause.TheVariants.{AddressFull as NoRoom, PoolEmpty as NoBlock}
 use Rattle.nat_mapping.specs.declared.row.Peer.{Peer}
 use Rattle.nat_mapping.specs.Rows.{Mapping, has_peer, is_of, least_free, peer_count, row_count}
@@ -57,12 +57,13 @@ new_block s f =
     require (may_block (usage_of s f.who.owner) s.config) QuotaBlocks
     >> with_choice s f.who.owner (choice_of s.config s.leases f.who.owner None s.clock)
 
--- the place of a key that has no row
+-- The place of a key that has no row; an answer makes none (RFC 5508 3.1).
 abbrev pub place_for : State → Flow → Result Grant DropCause
 place_for s f =
-    require (may_map (usage_of s f.who.owner) s.config) QuotaMappings
+    require (not f.answers) NoMapping
+    >> (require (may_map (usage_of s f.who.owner) s.config) QuotaMappings
     >> (require (may_peer (usage_of s f.who.owner) s.config) QuotaPeers
-    >> (elim (place_in_lease s f) [ Some ext ↦ Ok (at_once ext) | None ↦ new_block s f ]))
+    >> (elim (place_in_lease s f) [ Some ext ↦ Ok (at_once ext) | None ↦ new_block s f ])))
 
 -- the place of a row, unless the flow's remote endpoint would be a peer more than its subscriber may have (RFC 6888 3, REQ-5)
 abbrev pub kept_place : State → Flow → Mapping → Result Grant DropCause

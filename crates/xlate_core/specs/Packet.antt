@@ -5,14 +5,16 @@ use Rattle.aftr_base.specs.Value.{is_under4}
 use Rattle.aftr_base.specs.Plan.{is_routable_octet, tunnel_prefix}
 use Rattle.aftr_base.specs.declared.value.Ip4.{Ip4}
 use Rattle.aftr_base.specs.declared.value.Proto.{Proto}
-use Rattle.aftr_base.specs.declared.value.Proto.TheVariants.{Tcp, Udp}
+use Rattle.aftr_base.specs.declared.value.Proto.TheVariants.{Tcp, Udp, Icmp}
 use Rattle.aftr_base.specs.declared.event.DropCause.{DropCause}
 use Rattle.aftr_base.specs.declared.event.DropCause.TheVariants.{BadPacket, Options, NoProtocol, TtlSpent}
 use Rattle.wire_ip4.specs.Grammar.{Header, packet_of as ip4_packet}
-use Rattle.wire_l4.specs.Grammar.{Transport, header_len, transport_in, transport_of}
+use Rattle.wire_icmp.specs.Grammar.{message_of}
+use Rattle.wire_icmp.specs.Quoted.{is_echo}
+use Rattle.wire_l4.specs.Grammar.{Transport, Query, header_len, transport_in, transport_of}
 use Rattle.wire_l4.specs.Places.{port_at}
 use Rattle.xlate_core.specs.declared.packet.Ends.{Ends}
-use Rattle.xlate_core.specs.Datagram.{Datagram, flags_of}
+use Rattle.xlate_core.specs.Datagram.{Datagram, flags_of, is_answer}
 
 -- an IPv4 packet without options, and its payload
 abbrev pub plain_ip4 : List ℕ → Result (Header × List ℕ) DropCause
@@ -29,22 +31,35 @@ is_routable a = is_routable_octet (a.0 / 16777216)
 abbrev pub has_route : Header → Bool
 has_route h = is_routable h.fields.src && is_routable h.fields.dst && not (is_under4 tunnel_prefix h.fields.dst)
 
--- the protocols that are translated, whose transports have ports (RFC 3022 4.1)
+-- the protocols that are translated (RFC 3022 4.1, RFC 5508 3.1)
 abbrev pub proto_from : ℕ → Result Proto DropCause
-proto_from number = if number == 17 then Ok Udp else if number == 6 then Ok Tcp else Err NoProtocol
+proto_from number = if number == 17 then Ok Udp else if number == 6 then Ok Tcp else if number == 1 then Ok Icmp else Err NoProtocol
+
+-- Of ICMP's messages those of echo, which bear their checksum (RFC 792).
+abbrev pub query_from : List ℕ → Result Transport DropCause
+query_from bytes = do
+  m ← refused_as (message_of bytes) BadPacket
+  require (is_echo m.kind) NoProtocol
+  Ok (Query m)
+
+-- the transport of the protocol
+abbrev pub transport_from : Proto → List ℕ → Result Transport DropCause
+transport_from Udp bytes = refused_as (transport_of Udp bytes) BadPacket
+transport_from Tcp bytes = refused_as (transport_of Tcp bytes) BadPacket
+transport_from Icmp bytes = query_from bytes
 
 -- a datagram that may be forwarded once more
 abbrev pub datagram_of : Header × List ℕ → Result Datagram DropCause
 datagram_of packet = do
   proto ← proto_from packet.0.fields.proto
   require (nat_le 2 packet.0.fields.ttl) TtlSpent
-  transport ← refused_as (transport_of proto packet.1) BadPacket
+  transport ← transport_from proto packet.1
   let d : Datagram = record { header = packet.0; body = transport }
   Ok d
 
--- the ports and the control bits of a transport
+-- the ports and the control bits of a transport, and whether it is an answer to an echo request
 abbrev pub ends_of : Transport → Ends
-ends_of t = record { src = port_at true t; dst = port_at false t; flags = flags_of t }
+ends_of t = record { src = port_at true t; dst = port_at false t; flags = flags_of t; answers = is_answer t }
 
 -- a datagram as it lies in its packet, whose header has no options and whose TTL is at least 2
 pub record IsReady (header : Header) (payload : List ℕ) (proto : Proto) (ends : Ends) : Type 0 where

@@ -22,7 +22,7 @@ use Rattle.xlate_core.specs.declared.grant.Grant.{Grant}
 use Rattle.xlate_core.specs.declared.grant.Flow.{Flow}
 use Rattle.xlate_core.specs.Arrivals.{arrival_of, receiver_of, rows_inbound}
 use Rattle.xlate_core.specs.State.{State, Step, is_ours, is_past_horizon, reach_of}
-use Rattle.xlate_core.specs.Datagram.{Datagram, datagram_bytes, flags_of, place_on, key_of, hairpinned, inner_place, translated}
+use Rattle.xlate_core.specs.Datagram.{Datagram, datagram_bytes, flags_of, is_answer, place_on, key_of, hairpinned, inner_place, translated}
 use Rattle.xlate_core.specs.Outbound.{Outbound, outbound_of}
 use Rattle.xlate_core.specs.Inbound.{inbound_of}
 use Rattle.xlate_core.specs.Grant.{granted, granted_only, after_grant, opening_events}
@@ -47,6 +47,7 @@ flow_of got = record {
   key = key_of got.who.softwire got.datagram;
   remote = place_on false got.datagram;
   flags = flags_of got.datagram.body;
+  answers = is_answer got.datagram.body;
 }
 
 -- the place that the datagram's mapping has or gets, or the first reason against it

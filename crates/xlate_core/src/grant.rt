@@ -33,14 +33,15 @@ pub struct Grant {
     pub lease: Option<LeaseRow>,
 }
 
-/// What a place is asked for: a sender's inner key, the remote endpoint that it sends to, and the control bits that it
-/// sends, which only TCP has.
+/// What a place is asked for: a sender's inner key, the remote endpoint that it sends to, the control bits that it sends,
+/// which only TCP has, and whether it answers an echo request.
 #[derive(Clone, Copy, Debug)]
 pub(crate) struct Flow {
     pub(crate) who: Sender,
     pub(crate) key: InnerKey,
     pub(crate) remote: Ext,
     pub(crate) flags: u8,
+    pub(crate) answers: bool,
 }
 
 impl Core {
@@ -53,7 +54,8 @@ impl Core {
         self.table.search(&flow.key, flow.who.owner)
     }
 
-    /// The place that the mapping of a flow has, or gets now; the search is that for its key. The cause is `QuotaMappings`
+    /// The place that the mapping of a flow has, or gets now; the search is that for its key. The cause is `NoMapping` where an
+    /// answer to an echo request has no mapping, and `QuotaMappings`
     /// or `QuotaPeers` where its subscriber has as many mappings or peers as it may and would have one more. No port being
     /// left in its open leases, it is `QuotaBlocks` where it has as many of those as it may, `AddressFull` where it has some
     /// and no block on their address is free, and `PoolEmpty` where it has none and no block of the pool is free.
@@ -125,6 +127,7 @@ impl Core {
         ensures { result ≡ place_for self.now flow.now }
     {
         let owner = flow.who.owner;
+        require(!flow.answers, DropCause::NoMapping)?;
         require(self.may_map(owner, holding), DropCause::QuotaMappings)?;
         require(self.may_peer(owner, holding), DropCause::QuotaPeers)?;
         match self.place_in_lease(flow) {

@@ -141,6 +141,7 @@ impl<'a> Outbound<'a> {
             },
             remote: self.datagram.place(false),
             flags: self.datagram.flags(),
+            answers: self.datagram.answers(),
         }
     }
 }

@@ -1,16 +1,18 @@
 //! What every packet is asked, whichever way it goes, and how it goes on (RFC 3022 4, RFC 4787 4).
-ghost use Rattle.std.specs.Prelude.{◌≡◌, ◌≤◌, ◌+◌, ◌++◌, [], drop, length, take, true, false, Err, IfErr, IfOk, Ok};
+ghost use Rattle.std.specs.Prelude.{◌≡◌, ◌≤◌, ◌+◌, ◌++◌, ℕ, [], ◌==◌, drop, length, take, true, false, Err, IfErr, IfOk, Ok};
 ghost use Rattle.std.specs.List.{list_any};
 ghost use Rattle.aftr_base.specs.Attempt.{refused_as, require};
 ghost use Rattle.aftr_base.specs.Plan.{tunnel_prefix};
 ghost use Rattle.aftr_base.specs.Value.{is_under4};
-ghost use Rattle.aftr_base.specs.declared.event.DropCause.TheVariants.{BadPacket};
+ghost use Rattle.aftr_base.specs.declared.event.DropCause.TheVariants.{BadPacket, NoProtocol};
 ghost use Rattle.aftr_base.specs.declared.value.Proto.TheVariants.{Icmp, Tcp, Udp};
+ghost use Rattle.wire_icmp.specs.Grammar.{kind_of};
+ghost use Rattle.wire_icmp.specs.Quoted.{is_echo};
 ghost use Rattle.wire_l4.specs.Grammar.{Transport, header_len, transport_bytes, transport_in, transport_of};
 ghost use Rattle.wire_l4.specs.Places.{port_at, proto_of, replaced};
 ghost use Rattle.xlate_core.specs.Arrivals.{arrival_of};
-ghost use Rattle.xlate_core.specs.Datagram.{datagram_bytes, flags_of, hairpinned, place_on, translated};
-ghost use Rattle.xlate_core.specs.Packet.{datagram_of, ends_of, has_route, is_routable, plain_ip4, proto_from, transport_behind};
+ghost use Rattle.xlate_core.specs.Datagram.{datagram_bytes, flags_of, hairpinned, is_answer, place_on, translated};
+ghost use Rattle.xlate_core.specs.Packet.{datagram_of, ends_of, has_route, is_routable, plain_ip4, proto_from, query_from, transport_behind, transport_from};
 ghost use Rattle.xlate_core.specs.State.{is_ours};
 
 use crate::arrival::Arrival;
@@ -19,6 +21,7 @@ use arrayvec::ArrayVec;
 use cfg_text::Config;
 use std::alloc::Global;
 use std::marker::Model;
+use wire_icmp::{IcmpKind, IcmpView};
 use wire_ip4::{Ip4Fields, Ip4View};
 use wire_l4::{TcpView, UdpView, set_place};
 
@@ -82,15 +85,16 @@ fn is_under_any(pool: &[Prefix4], a: Ip4) -> bool
     pool.iter().any(|p| p.covers(a))
 }
 
-/// The ports of a transport, and the control bits that only TCP has.
+/// The ports of a transport, the control bits that only TCP has, and whether it is an answer to an echo request.
 #[derive(Clone, Copy, Debug)]
 pub(crate) struct Ends {
     pub(crate) src: u16,
     pub(crate) dst: u16,
     pub(crate) flags: u8,
+    pub(crate) answers: bool,
 }
 
-/// A UDP datagram or TCP segment that may be forwarded once more, read in place. Contracts see its header and its transport.
+/// A UDP datagram, TCP segment or echo message that may be forwarded once more, read in place. Contracts see its header and its transport.
 #[derive(Debug, Drop)]
 pub(crate) struct Datagram<'a> {
     packet: Ip4View<'a>,
@@ -110,8 +114,9 @@ impl<'a> Model for Datagram<'a> {
     ghost invariant = { λ d. IsReady d.packet.0 d.packet.1 d.proto d.ends };
 }
 
-/// The datagram of a plain packet. The cause is `NoProtocol` for another protocol than UDP and TCP, `TtlSpent` where it may
-/// take no further hop, and `BadPacket` where its lengths don't fit.
+/// The datagram of a plain packet. The cause is `NoProtocol` for another protocol than UDP, TCP and ICMP, `TtlSpent` where it
+/// may take no further hop, `BadPacket` where its lengths don't fit or an ICMP message doesn't bear its checksum, and
+/// `NoProtocol` where that is no echo message.
 pub(crate) fn datagram_of(packet: Ip4View<'_>) -> Result<Datagram<'_>, DropCause>
     requires plain { packet.0.options ≡ [] }
     requires total { packet.0.fields.total ≡ 20 + length packet.1 }
@@ -136,6 +141,8 @@ fn proto_from(number: u8) -> Result<Proto, DropCause>
         Ok(Proto::Udp)
     } else if number == 6 {
         Ok(Proto::Tcp)
+    } else if number == 1 {
+        Ok(Proto::Icmp)
     } else {
         Err(DropCause::NoProtocol)
     }
@@ -145,10 +152,11 @@ fn proto_from(number: u8) -> Result<Proto, DropCause>
 fn ends_in(proto: Proto, payload: &[u8]) -> Result<Ends, DropCause>
     ensures ends { IfOk result (λ e. e ≡ ends_of (transport_in proto payload.now)) }
     ensures whole { IfOk result (λ e. header_len proto ≤ length payload.now) }
-    ensures read { IfOk result
+    ensures sound { IfOk result
         (λ e. transport_of proto payload.now ≡ Ok (transport_in proto payload.now)) }
-    ensures refusal { IfErr result
-        (λ cause. refused_as (transport_of proto payload.now) BadPacket ≡ Err cause) }
+    ensures read { IfOk result
+        (λ e. transport_from proto payload.now ≡ Ok (transport_in proto payload.now)) }
+    ensures refusal { IfErr result (λ cause. transport_from proto payload.now ≡ Err cause) }
 {
     match proto {
         Proto::Udp => udp_ends(payload),
@@ -168,7 +176,12 @@ fn udp_ends(payload: &[u8]) -> Result<Ends, DropCause>
     match UdpView::read(payload) {
         Ok(udp) => {
             let (src, dst) = udp.ports();
-            Ok(Ends { src, dst, flags: 0 })
+            Ok(Ends {
+                src,
+                dst,
+                flags: 0,
+                answers: false,
+            })
         }
         Err(_) => Err(DropCause::BadPacket),
     }
@@ -189,30 +202,48 @@ fn tcp_ends(payload: &[u8]) -> Result<Ends, DropCause>
                 src,
                 dst,
                 flags: tcp.flags(),
+                answers: false,
             })
         }
         Err(_) => Err(DropCause::BadPacket),
     }
 }
 
-// an ICMP query has its identifier on both sides (RFC 5508 section 3.1)
+// an echo message has its identifier on both sides (RFC 5508 section 3.1)
 fn query_ends(payload: &[u8]) -> Result<Ends, DropCause>
     ensures ends { IfOk result (λ e. e ≡ ends_of (transport_in Icmp payload.now)) }
     ensures whole { IfOk result (λ e. header_len Icmp ≤ length payload.now) }
-    ensures read { IfOk result
+    ensures sound { IfOk result
         (λ e. transport_of Icmp payload.now ≡ Ok (transport_in Icmp payload.now)) }
-    ensures refusal { IfErr result
-        (λ cause. refused_as (transport_of Icmp payload.now) BadPacket ≡ Err cause) }
+    ensures read { IfOk result
+        (λ e. query_from payload.now ≡ Ok (transport_in Icmp payload.now)) }
+    ensures refusal { IfErr result (λ cause. query_from payload.now ≡ Err cause) }
 {
-    if payload.len() < 8 {
+    let Ok(message) = IcmpView::read(payload) else {
         return Err(DropCause::BadPacket);
-    }
-    let id = u16_in(payload, 4);
+    };
+    let answers = answers(message.kind())?;
+    let id = message.id();
     Ok(Ends {
         src: id,
         dst: id,
         flags: 0,
+        answers,
     })
+}
+
+// whether a message of echo is an answer
+fn answers(kind: IcmpKind) -> Result<bool, DropCause>
+    ensures answer { IfOk result (λ answers. (n : ℕ) → kind ≡ kind_of n
+        → (is_echo n ≡ true) × (answers ≡ (n == 0))) }
+    ensures refusal { IfErr result (λ cause. (n : ℕ) → kind ≡ kind_of n
+        → (is_echo n ≡ false) × (cause ≡ NoProtocol)) }
+{
+    match kind {
+        IcmpKind::EchoRequest => Ok(false),
+        IcmpKind::EchoReply => Ok(true),
+        IcmpKind::Fault | IcmpKind::Other => Err(DropCause::NoProtocol),
+    }
 }
 
 impl<'a> Datagram<'a> {
@@ -235,6 +266,13 @@ impl<'a> Datagram<'a> {
         ensures { result ≡ flags_of self.now.body }
     {
         self.ends.flags
+    }
+
+    /// Whether it is an answer to an echo request.
+    pub(crate) fn answers(&self) -> bool
+        ensures { result ≡ is_answer self.now.body }
+    {
+        self.ends.answers
     }
 
     /// Its source, or else its destination.
