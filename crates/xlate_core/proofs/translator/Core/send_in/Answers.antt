@@ -1,6 +1,5 @@
 use Rattle.std.proofs.Common.{◌≡◌, ◌≤◌, ◌++◌, ◌∷◌, [], ℕ, List, None, length, refl, sym, ap, ◌∙◌, subst, append-nil}
 use Rattle.std.specs.Prelude.{slice_get}
-use Rattle.aftr_base.specs.declared.value.InnerKey.{InnerKey}
 use Rattle.aftr_base.specs.declared.value.Side.TheVariants.{Softwire as SoftwireSide}
 use Rattle.aftr_base.proofs.Founds.{some_inj}
 use Rattle.nat_mapping.specs.Rows.{Mapping, mapping_of}
