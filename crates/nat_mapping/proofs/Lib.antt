@@ -2,6 +2,7 @@ pub mod Apart
 pub mod Deadlines
 pub mod Kept
 pub mod Mapped
+pub mod Marks
 pub mod Peers
 pub mod Parts
 pub mod Touched

@@ -1,6 +1,6 @@
 -- Mapping rows (RFC 4787 4), as a list in order of making.
 use Rattle.std.specs.Prelude.{◌≡◌, ◌<◌, ℕ, zero, suc, ◌+◌, ◌-◌, Bool, true, false, not, ◌&&◌, ◌==◌, nat_lt, List, [], ◌∷◌, ◌++◌, length, map, filter, find, sum_by}
-use Rattle.std.specs.Prelude.{All, ◌≤◌, ◌^◌, min, take, Option, Some, None, option_map, if◌then◌else◌, slice_index}
+use Rattle.std.specs.Prelude.{All, ◌≤◌, ◌^◌, min, take, Option, Some, None, option_map, if◌then◌else◌, slice_index, slice_index_or}
 use Rattle.std.specs.List.{list_any, position, range_with_len}
 use Rattle.std.specs.Vec.{vec_capacity, vec_len}
 use Rattle.aftr_base.specs.Value.{ip4_eq, place_eq, proto_eq, key_eq, subscriber_eq, is_within, place}
@@ -73,6 +73,14 @@ is_free proto addr rows port = not (has_place proto (place addr port) rows)
 -- the least port of the range that is free
 abbrev pub least_free : Proto → Ip4 → ℕ → ℕ → List Mapping → Option ℕ
 least_free proto addr first last rows = find (is_free proto addr rows) (range_with_len first (last + 1 - first))
+
+-- a port has a mark
+abbrev pub is_marked : List Bool → ℕ → Bool
+is_marked marks port = slice_index_or marks port false
+
+-- the marked ports are those that rows of the protocol have at the address
+abbrev pub MarksPorts : List Bool → Proto → Ip4 → List Mapping → Type 0
+MarksPorts marks proto addr rows = (port : ℕ) → port < 65536 → is_marked marks port ≡ has_place proto (place addr port) rows
 
 -- a port stands this far behind another, where it does at all
 abbrev pub is_offset : Option ℕ → ℕ → Bool

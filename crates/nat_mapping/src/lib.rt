@@ -5,9 +5,11 @@ mod ports;
 mod row;
 mod search;
 mod table;
+mod taken_ports;
 #[cfg(test)]
 mod tests;
 
 pub use row::{Peer, Row};
 pub use search::{Holding, Search};
 pub use table::{RowId, Table};
+pub use taken_ports::TakenPorts;

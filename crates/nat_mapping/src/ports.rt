@@ -4,7 +4,7 @@ ghost use Rattle.aftr_base.proofs.Searches.{numbers};
 ghost use Rattle.aftr_base.specs.Value.{place};
 ghost use Rattle.nat_mapping.specs.Rows.{has_place, is_at, is_free, is_offset, least_free, mapping_of};
 
-use crate::row::{Row, number};
+use crate::row::{Row, is_same_proto};
 use aftr_base::{Ip4, Proto};
 
 // how many ports one pass over the rows covers: as many as a block has at most
@@ -79,7 +79,7 @@ fn offset_of(row: &Row, proto: Proto, addr: Ip4, from: u32) -> Option<usize>
     ensures { (i : ℕ) → is_at proto (place addr (from + i)) (mapping_of row.now) ≡ is_offset result i }
 {
     let port = u32::from(row.ext.port);
-    if number(proto) == number(row.key.proto) && addr.0 == row.ext.addr.0 && from <= port {
+    if is_same_proto(proto, row.key.proto) && addr.0 == row.ext.addr.0 && from <= port {
         Some((port - from) as usize)
     } else {
         None

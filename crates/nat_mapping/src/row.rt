@@ -4,7 +4,7 @@ ghost use Rattle.nat_mapping.specs.declared.row.Row.{Row};
 ghost use Rattle.std.specs.Vec.{vec_capacity, vec_len};
 ghost use Rattle.nat_mapping.specs.declared.row.Peer.{Peer};
 ghost use Rattle.nat_mapping.specs.Rows.{has_peer, is_at, is_used, is_of, live_peers, mapping_of, same_peer, with_peer};
-ghost use Rattle.aftr_base.specs.Value.{number_of};
+ghost use Rattle.aftr_base.specs.Value.{proto_eq};
 
 use aftr_base::{Ext, InnerKey, Ip4, Moment, Proto, Subscriber};
 use tcp_track::TcpState;
@@ -37,17 +37,18 @@ impl Row {
     pub(crate) fn is_of(&self, key: &InnerKey) -> bool
         ensures { result ≡ is_of key.now (mapping_of self.now) }
     {
-        key.softwire.0 == self.key.softwire.0
-            && number(key.proto) == number(self.key.proto)
+        // the port first, which tells most rows apart
+        key.port == self.key.port
+            && key.softwire.0 == self.key.softwire.0
+            && is_same_proto(key.proto, self.key.proto)
             && key.addr.0 == self.key.addr.0
-            && key.port == self.key.port
     }
 
     // whether it has this place for this protocol
     pub(crate) fn is_at(&self, proto: Proto, ext: Ext) -> bool
         ensures { result ≡ is_at proto ext (mapping_of self.now) }
     {
-        number(proto) == number(self.key.proto)
+        is_same_proto(proto, self.key.proto)
             && ext.addr.0 == self.ext.addr.0
             && ext.port == self.ext.port
     }
@@ -102,15 +103,10 @@ fn is_same_peer(p: &Peer, q: &Peer) -> bool
     p.addr.0 == q.addr.0 && p.port == q.port
 }
 
-// the protocol number (RFC 791 section 3.1, IANA)
-pub(crate) fn number(proto: Proto) -> u8
-    ensures { result ≡ number_of proto }
+pub(crate) fn is_same_proto(p: Proto, q: Proto) -> bool
+    ensures { result ≡ proto_eq p q }
 {
-    match proto {
-        Proto::Tcp => 6,
-        Proto::Udp => 17,
-        Proto::Icmp => 1,
-    }
+    p == q
 }
 
 // a moment before which none of the peers of these rows goes

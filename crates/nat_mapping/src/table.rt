@@ -2,11 +2,12 @@
 ghost use Rattle.std.specs.Prelude.{◌≡◌, ◌≢◌, ◌<◌, ◌≤◌, ◌+◌, ◌-◌, ◌^◌, ◌||◌, ◌++◌, [], ◌∷◌, ℕ, Some, false, true, nat_lt, length, min, position, take, slice_get, IfNone, IfOk, IfSome, IsTrue, OnOk, OnErr};
 ghost use Rattle.std.specs.List.{list_any};
 ghost use Rattle.nat_mapping.specs.declared.row.Row.{Row};
-ghost use Rattle.nat_mapping.specs.Rows.{KeepsSpares, are_apart, expired, has_key, has_peer_at, has_place, holding_of, in_use, is_at, is_of, least_free, lies_in, mapping_of, peer_count, row_at, row_count, row_id, row_of, searched, spare_at, touched_at};
+ghost use Rattle.nat_mapping.specs.Rows.{KeepsSpares, MarksPorts, are_apart, expired, has_key, has_peer_at, has_place, holding_of, in_use, is_at, is_of, least_free, lies_in, mapping_of, peer_count, row_at, row_count, row_id, row_of, searched, spare_at, touched_at};
 
 use crate::ports;
 use crate::row::{Peer, Row, earliest_of, put_peer};
 use crate::search::{self, Holding, Search};
+use crate::taken_ports::TakenPorts;
 use aftr_base::{Ext, InnerKey, Ip4, Moment, NoMemory, Proto, Subscriber};
 use std::alloc::Global;
 use std::marker::Model;
@@ -60,14 +61,25 @@ impl Table {
         out_at(&self.rows, key).map(RowId)
     }
 
-    /// Looks for the row of an inner key, and counts on the way what an owner has. No row behind the key's is visited.
-    pub fn search(&self, key: &InnerKey, owner: Subscriber) -> Search
+    /// Looks for the row of an inner key, and counts on the way what an owner has. Where the key has none, `taken` comes to mark
+    /// the ports that rows of the key's protocol have at the address, if there is one. No row behind the key's is visited.
+    pub fn search(
+        &self,
+        key: &InnerKey,
+        owner: Subscriber,
+        addr: Option<Ip4>,
+        taken: &mut TakenPorts,
+    ) -> Search
         ensures found { result.row ≡ row_of key.now self.now.rows }
         ensures before { result.before ≡ holding_of owner (searched result.row self.now.rows) }
         ensures live { IfSome result.row (λ id. id.0 < length self.now.rows) }
         ensures unused { IfNone result.row (has_key key.now self.now.rows ≡ false) }
+        ensures marks { IfNone result.row
+            (IfSome addr (λ a. MarksPorts taken.new key.now.proto a self.now.rows)) }
     {
-        search::search_in(&self.rows, key, owner)
+        // with no address, the marks may be of any
+        let addr = addr.unwrap_or(Ip4(0));
+        search::search_in(&self.rows, key, owner, addr, taken)
     }
 
     /// What an owner has in all rows, where it has this much in those before that one. Only rows from that one on are

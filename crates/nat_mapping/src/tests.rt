@@ -103,3 +103,19 @@ fn the_least_port_that_is_free(rt: HostRuntime) -> Result<(), Fail> {
     );
     Ok(())
 }
+
+#[test]
+fn a_search_marks_the_taken_ports(rt: HostRuntime) -> Result<(), Fail> {
+    let mut table = Table::new(rt.alloc());
+    let mut taken = TakenPorts::new(rt.alloc())?;
+    for port in [1024, 1025, 1027] {
+        assert!(rt; add(&mut table, key(Proto::Udp, port), port, peer(0, 1000))?);
+    }
+    let found = table.search(&key(Proto::Udp, 5000), OWNER, Some(POOL), &mut taken);
+    assert_eq!(rt; (found.row, found.before.rows), (None, 3));
+    assert_eq!(rt; taken.least_free(1024, 1535), Some(1026));
+    assert_eq!(rt; taken.least_free(1024, 1025), None);
+    let _found = table.search(&key(Proto::Tcp, 5000), OWNER, Some(POOL), &mut taken);
+    assert_eq!(rt; taken.least_free(1024, 1025), Some(1024));
+    Ok(())
+}

@@ -217,6 +217,44 @@ fn an_address_without_a_free_block(rt: HostRuntime) {
     check_places(&rt, pool(&rt, 31), &packets, report, &places);
 }
 
+// The three blocks of 192.0.2.8 have a subscriber each, of whom the first fills its own: no block of 192.0.2.9 is for it.
+#[test]
+fn a_full_block_on_a_full_address(rt: HostRuntime) {
+    let mut config = pool(&rt, 31);
+    config.block_size = 16384;
+    config.max_mappings = 20_000;
+    config.max_peers = 20_000;
+    let mut packets = Packets::new(&rt);
+    let mut places = Vec::new(rt.alloc());
+    for block in 0..3 {
+        packets.add(&rt, 1_000_000, block, 5000, 0);
+        places
+            .push((8, 1024 + 16384 * block))
+            .expect(&rt, "memory for a place");
+    }
+    for port in 1..16384 {
+        packets.add(&rt, 1_000_000, 0, 5000 + port, 0);
+        places
+            .push((8, 1024 + port))
+            .expect(&rt, "memory for a place");
+    }
+    packets.add(&rt, 1_000_000, 0, 21384, 0);
+    // The last mapping that there is still leaves.
+    packets.add(&rt, 1_000_000, 0, 21383, 0);
+    places.push((8, 17407)).expect(&rt, "memory for a place");
+    let report = "records 16388\nsent 16387\nmarks 0\ndrop AddressFull 1\n";
+    let plant = run_packets(&rt, config, &packets, report);
+    compare_places(&rt, plant.sent(), &places);
+    let leases = crate::driver::ask(&rt, &["leases", "log"], plant.content());
+    assert_eq!(rt; str::from_utf8(leases.written()), Ok(THREE_LEASES));
+}
+
+const THREE_LEASES: &str =
+    "lease 192.0.2.8 1024 17407 1000000 open 2001:0db8:0100:0000:0000:0000:0000:0000/56
+lease 192.0.2.8 17408 33791 1000000 open 2001:0db8:0100:0100:0000:0000:0000:0000/56
+lease 192.0.2.8 33792 50175 1000000 open 2001:0db8:0100:0200:0000:0000:0000:0000/56
+horizon 1002000\n";
+
 // Three subscribers have the three blocks, of whom the first falls silent.
 fn three_blocks<R: Abort + AllocGlobal>(rt: &R) -> (Config, Packets) {
     let mut config = pool(rt, 32);

@@ -1,7 +1,8 @@
 //! Which place a mapping gets, and what is kept of it (RFC 4787 4, RFC 6888 3).
-ghost use Rattle.std.specs.Prelude.{◌≡◌, ◌<◌, ◌-◌, ◌^◌, ◌++◌, None, Some, Ok, OnOk, IfSome, length, map, min, option_to_list, slice_get, take};
+ghost use Rattle.std.specs.Prelude.{◌≡◌, ◌<◌, ◌-◌, ◌^◌, ◌++◌, None, Some, Ok, OnOk, IfErr, IfNone, IfOk, IfSome, length, map, min, option_to_list, slice_get, take};
 ghost use Rattle.aftr_base.specs.Row.{block_event};
-ghost use Rattle.nat_mapping.specs.Rows.{Mapping, holding_of, is_of, mapping_of, row_of, searched};
+ghost use Rattle.nat_mapping.specs.Rows.{Mapping, MarksPorts, holding_of, is_of, least_free, mapping_of, row_of, searched};
+ghost use Rattle.port_blocks.specs.Free.{own_address};
 ghost use Rattle.quota.specs.Limits.{may_block, may_map, may_peer};
 ghost use Rattle.xlate_core.specs.Endpoints.{outbound_peer};
 ghost use Rattle.xlate_core.specs.Grant.{after_grant, at_once, granted, kept_place, new_block, opening_events, peer_of, place_for, place_in, place_in_lease, usage_of, with_choice};
@@ -12,9 +13,9 @@ use crate::packet::require;
 use crate::step_out::block_event;
 use crate::translator::Core;
 use aftr_base::{
-    DropCause, Ext, InnerKey, Ip6, LeaseRow, List, LogEvent, NoMemory, Proto, Subscriber,
+    DropCause, Ext, InnerKey, Ip4, Ip6, LeaseRow, List, LogEvent, NoMemory, Proto, Subscriber,
 };
-use nat_mapping::{Holding, Peer, RowId, Search, Table};
+use nat_mapping::{Holding, Peer, RowId, Search, TakenPorts};
 use port_blocks::{Blocks, Choice, is_open_of, opened};
 use quota::{Usage, may_block, may_map, may_peer};
 use tcp_track::TcpState;
@@ -45,29 +46,42 @@ pub(crate) struct Flow {
 }
 
 impl Core {
-    /// Where the row of a flow's key stands, and what its subscriber has before that.
-    pub(crate) fn search(&self, flow: &Flow) -> Search
-        ensures row { result.row ≡ row_of flow.now.key self.now.rows }
-        ensures before { result.before
-            ≡ holding_of flow.now.who.owner (searched result.row self.now.rows) }
+    /// Where the row of a flow's key stands, if it has one, and the place that its mapping has, or gets now. The cause is
+    /// `NoMapping` where an answer to an echo request has no mapping, and `QuotaMappings` or `QuotaPeers` where its subscriber
+    /// has as many mappings or peers as it may and would have one more. No port being left in its open leases, it is `QuotaBlocks` where it has as many of those as it may, `AddressFull` where it
+    /// has some and no block on their address is free, and `PoolEmpty` where it has none and no block of the pool is free.
+    pub(crate) fn granted(&mut self, flow: &Flow) -> Result<(Option<RowId>, Grant), DropCause>
+        ensures same { self.new ≡ self.old }
+        ensures row { IfOk result (λ g. g.0 ≡ row_of flow.now.key self.old.rows) }
+        ensures grant { IfOk result (λ g. granted self.old flow.now ≡ Ok g.1) }
+        ensures refusal { IfErr result (λ cause. granted self.old flow.now ≡ Err cause) }
     {
-        self.table.search(&flow.key, flow.who.owner)
+        let addr = address_of(&self.blocks, flow.who.owner);
+        let found = self
+            .table
+            .search(&flow.key, flow.who.owner, addr, &mut self.taken);
+        let grant = self.place_by(flow, &found, addr, &self.taken)?;
+        Ok((found.row, grant))
     }
 
-    /// The place that the mapping of a flow has, or gets now; the search is that for its key. The cause is `NoMapping` where an
-    /// answer to an echo request has no mapping, and `QuotaMappings`
-    /// or `QuotaPeers` where its subscriber has as many mappings or peers as it may and would have one more. No port being
-    /// left in its open leases, it is `QuotaBlocks` where it has as many of those as it may, `AddressFull` where it has some
-    /// and no block on their address is free, and `PoolEmpty` where it has none and no block of the pool is free.
-    pub(crate) fn granted(&self, flow: &Flow, found: &Search) -> Result<Grant, DropCause>
+    // The place of a mapping, by a search for its row that marked the ports taken at this address.
+    fn place_by(
+        &self,
+        flow: &Flow,
+        found: &Search,
+        addr: Option<Ip4>,
+        taken: &TakenPorts,
+    ) -> Result<Grant, DropCause>
         requires row { found.now.row ≡ row_of flow.now.key self.now.rows }
         requires before { found.now.before
             ≡ holding_of flow.now.who.owner (searched found.now.row self.now.rows) }
+        requires marks { IfNone found.now.row
+            (IfSome addr (λ a. MarksPorts taken.now flow.now.key.proto a self.now.rows)) }
         ensures { result ≡ granted self.now flow.now }
     {
         match found.row {
             Some(id) => self.kept_place(flow, id, found.before),
-            None => self.new_place(flow, found.before),
+            None => self.new_place(flow, found.before, addr, taken),
         }
     }
 
@@ -122,32 +136,80 @@ impl Core {
     }
 
     // the place of a key that has no row, where its subscriber has this much in all rows
-    fn new_place(&self, flow: &Flow, holding: Holding) -> Result<Grant, DropCause>
-        requires { holding ≡ holding_of flow.now.who.owner self.now.rows }
+    fn new_place(
+        &self,
+        flow: &Flow,
+        holding: Holding,
+        addr: Option<Ip4>,
+        taken: &TakenPorts,
+    ) -> Result<Grant, DropCause>
+        requires holding { holding ≡ holding_of flow.now.who.owner self.now.rows }
+        requires marks { IfSome addr (λ a. MarksPorts taken.now flow.now.key.proto a self.now.rows) }
         ensures { result ≡ place_for self.now flow.now }
     {
         let owner = flow.who.owner;
         require(!flow.answers, DropCause::NoMapping)?;
         require(self.may_map(owner, holding), DropCause::QuotaMappings)?;
         require(self.may_peer(owner, holding), DropCause::QuotaPeers)?;
-        match self.place_in_lease(flow) {
+        match self.place_in_lease(flow, addr, taken) {
             Some(place) => Ok(at_once(place)),
             None => self.new_block(flow),
         }
     }
 
     // the least free port of the first of the sender's open leases that has one, in order of opening
-    fn place_in_lease(&self, flow: &Flow) -> Option<Ext>
+    fn place_in_lease(&self, flow: &Flow, addr: Option<Ip4>, taken: &TakenPorts) -> Option<Ext>
+        requires { IfSome addr (λ a. MarksPorts taken.now flow.now.key.proto a self.now.rows) }
         ensures { result ≡ place_in_lease self.now flow.now }
     {
         for lease in self.blocks.rows() {
             if is_open_of(flow.who.owner, lease) {
-                if let Some(place) = place_in(&self.table, flow.key.proto, lease) {
-                    return Some(place);
+                let place = self.place_in(flow.key.proto, lease, addr, taken);
+                if place.is_some() {
+                    return place;
                 }
             }
         }
         None
+    }
+
+    // the least free port of a lease, and its address
+    fn place_in(
+        &self,
+        proto: Proto,
+        lease: &LeaseRow,
+        addr: Option<Ip4>,
+        taken: &TakenPorts,
+    ) -> Option<Ext>
+        requires { IfSome addr (λ a. MarksPorts taken.now proto a self.now.rows) }
+        ensures { result ≡ place_in self.now.rows proto lease.now }
+    {
+        let port = self.port_in(proto, lease, addr, taken)?;
+        Some(Ext {
+            addr: lease.addr,
+            port,
+        })
+    }
+
+    // All open leases of a subscriber are on the address of the first, whose ports the search marked. One elsewhere would take
+    // a pass over the rows of its own.
+    fn port_in(
+        &self,
+        proto: Proto,
+        lease: &LeaseRow,
+        addr: Option<Ip4>,
+        taken: &TakenPorts,
+    ) -> Option<u16>
+        requires { IfSome addr (λ a. MarksPorts taken.now proto a self.now.rows) }
+        ensures { let l = lease.now in
+            result ≡ least_free proto l.addr l.first l.last self.now.rows }
+    {
+        match addr {
+            Some(addr) if addr.0 == lease.addr.0 => taken.least_free(lease.first, lease.last),
+            _ => self
+                .table
+                .least_free(proto, lease.addr, lease.first, lease.last),
+        }
     }
 
     // the first place of a further block, which is leased from now on
@@ -282,15 +344,11 @@ fn blocks_used(count: usize) -> Usage
     }
 }
 
-// the least free port of a lease
-fn place_in(table: &Table, proto: Proto, lease: &LeaseRow) -> Option<Ext>
-    ensures { result ≡ place_in table.now.rows proto lease.now }
+// the address of a subscriber's first open lease
+fn address_of(blocks: &Blocks, owner: Subscriber) -> Option<Ip4>
+    ensures { result ≡ own_address None owner blocks.now.rows }
 {
-    let port = table.least_free(proto, lease.addr, lease.first, lease.last)?;
-    Some(Ext {
-        addr: lease.addr,
-        port,
-    })
+    blocks.lease_of(owner, 0).map(|l| l.addr)
 }
 
 // makes room for a lease, where one has to open

@@ -195,24 +195,20 @@ impl Core {
     }
 
     // the rules in their order
-    fn admit_outbound<'a>(&self, bytes: &'a [u8]) -> Result<Admitted<'a>, DropCause>
+    fn admit_outbound<'a>(&mut self, bytes: &'a [u8]) -> Result<Admitted<'a>, DropCause>
+        ensures same { self.new ≡ self.old }
         ensures admitted { IfOk result
-            (λ a. admitted_outbound self.now bytes.now ≡ Ok (a.got, a.grant)) }
+            (λ a. admitted_outbound self.old bytes.now ≡ Ok (a.got, a.grant)) }
         ensures row { IfOk result
-            (λ a. a.row ≡ row_of (key_of a.got.who.softwire a.got.datagram) self.now.rows) }
-        ensures grant { IfOk result (λ a. mapped self.now a.got ≡ Ok a.grant) }
-        ensures refusal { IfErr result (λ cause. admitted_outbound self.now bytes.now ≡ Err cause) }
+            (λ a. a.row ≡ row_of (key_of a.got.who.softwire a.got.datagram) self.old.rows) }
+        ensures grant { IfOk result (λ a. mapped self.old a.got ≡ Ok a.grant) }
+        ensures refusal { IfErr result (λ cause. admitted_outbound self.old bytes.now ≡ Err cause) }
     {
         require(self.floor.0 < self.clock.0, DropCause::Settling)?;
         let got = outbound_of(&self.config, bytes)?;
         let flow = got.flow();
-        let found = self.search(&flow);
-        let grant = self.granted(&flow, &found)?;
-        Ok(Admitted {
-            got,
-            row: found.row,
-            grant,
-        })
+        let (row, grant) = self.granted(&flow)?;
+        Ok(Admitted { got, row, grant })
     }
 
     // what an admitted datagram does

@@ -8,7 +8,7 @@ ghost use Rattle.xlate_core.specs.Valid.{is_closed, is_told_by};
 use crate::translator::Core;
 use aftr_base::{List, Moment, NoMemory, PlanRow, Told};
 use cfg_text::Config;
-use nat_mapping::Table;
+use nat_mapping::{Table, TakenPorts};
 use port_blocks::Blocks;
 use std::alloc::Global;
 
@@ -24,12 +24,14 @@ impl Core {
     {
         let blocks = Blocks::from_rows(alloc, told.leases.as_slice())?;
         let plans = copied_plans(alloc, told.plans.as_slice())?;
+        let taken = TakenPorts::new(alloc)?;
         Ok(Core {
             config,
             clock: Moment(0),
             floor: told.end(),
             horizon: told.horizon,
             table: Table::new(alloc),
+            taken,
             blocks,
             plans,
             all_used: false,

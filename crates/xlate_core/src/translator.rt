@@ -7,7 +7,7 @@ ghost use Rattle.xlate_core.specs.Stepped.{HasStepped};
 use crate::step_out::{Item, StepOut};
 use aftr_base::{DropCause, Event, EventKind, List, Moment, NoMemory, PlanRow, Side, Subscriber};
 use cfg_text::Config;
-use nat_mapping::Table;
+use nat_mapping::{Table, TakenPorts};
 use port_blocks::Blocks;
 use std::alloc::Global;
 use std::marker::Model;
@@ -21,6 +21,8 @@ pub struct Core {
     pub(crate) floor: Moment,
     pub(crate) horizon: Moment,
     pub(crate) table: Table,
+    // what the search for a packet's row marks on its way
+    pub(crate) taken: TakenPorts,
     pub(crate) blocks: Blocks,
     // carried along: no run opens one yet
     pub(crate) plans: List<PlanRow>,

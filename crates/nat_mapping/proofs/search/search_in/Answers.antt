@@ -1,6 +1,7 @@
 use Rattle.std.proofs.Common.{◌≡◌, ◌<◌, get_or, length, sym, ap, ◌∙◌, arith}
 use Rattle.nat_mapping.specs.declared.row.Row.{Row}
 use Rattle.nat_mapping.specs.Rows.{is_of, mapping_of}
+use Rattle.nat_mapping.proofs.Marks.{marked_all, marked_more}
 use Rattle.nat_mapping.proofs.Usages.{count_more, counted, counted_all, missed_more, peers_in, row_hit, row_missed, rows_in}
 use Rattle.nat_mapping.proofs.search.search_in.Goals as goal
 
@@ -30,6 +31,11 @@ returns-clause-before c =
     (omega (arith, c.loop-at-test.false, c.loop-at.auto.at-end))
     (record { rows_are = c.loop-at.invariant.rows; peers_are = c.loop-at.invariant.peers })
 
+pub returns-clause-marks : goal.returns-clause-marks
+returns-clause-marks c =
+    marked_all c.loop-at.taken c.args.key.now.proto c.args.rows.now c.loop-at.at c.args.addr
+    (omega (arith, c.loop-at-test.false, c.loop-at.auto.at-end)) c.loop-at.invariant.marks
+
 pub loop-at-preserved : goal.loop-at-preserved
 loop-at-preserved c =
     let rows = c.args.rows.now in
@@ -44,4 +50,6 @@ loop-at-preserved c =
       peers = count_more (peers_in c.args.owner) rows at c.loop-at.before.peers now.peers row lt c.index-rows-at.is was.peers
           c.holding_with-before.ensures.peers;
       missed = missed_more c.args.key.now rows at row lt c.index-rows-at.is was.missed (sym c.is_of.ensures ∙ c.if-is_of.false);
+      marks = marked_more c.loop-at.taken c.mark_port.new.taken c.args.key.now.proto rows at row c.args.addr lt c.index-rows-at.is was.marks
+          c.mark_port.ensures;
     }

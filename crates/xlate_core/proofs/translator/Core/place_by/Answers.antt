@@ -2,7 +2,7 @@ use Rattle.std.proofs.Common.{Option, sym, ap, ◌∙◌}
 use Rattle.nat_mapping.specs.declared.table.RowId.{RowId}
 use Rattle.nat_mapping.specs.Rows.{holding_of, searched}
 use Rattle.xlate_core.proofs.Positions.{found_row, granted_there, granted_anew}
-use Rattle.xlate_core.proofs.translator.Core.granted.Goals as goal
+use Rattle.xlate_core.proofs.translator.Core.place_by.Goals as goal
 
 pub kept_place-requires-clause-there : goal.kept_place-requires-clause-there
 kept_place-requires-clause-there c =
@@ -13,8 +13,8 @@ kept_place-requires-clause-before c =
     let f = c.args.flow.now in
     c.requires.before ∙ ap (λ (o : Option RowId). holding_of f.who.owner (searched o c.args.self.now.rows)) c.in-Some.is
 
-pub new_place-requires : goal.new_place-requires
-new_place-requires c =
+pub new_place-requires-clause-holding : goal.new_place-requires-clause-holding
+new_place-requires-clause-holding c =
     let f = c.args.flow.now in
     c.requires.before ∙ ap (λ (o : Option RowId). holding_of f.who.owner (searched o c.args.self.now.rows)) c.in-None.is
 
