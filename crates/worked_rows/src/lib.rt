@@ -11,6 +11,8 @@ mod configs;
 #[cfg(test)]
 mod connections;
 #[cfg(test)]
+mod cuts;
+#[cfg(test)]
 mod driver;
 #[cfg(test)]
 mod expiry;
