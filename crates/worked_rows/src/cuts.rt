@@ -1,6 +1,6 @@
 //! Packets that are cut for a link, and put together again from their pieces in whatever order these come.
 
-use aftr_base::{Ip4, Ip6, Moment, Packets, Prefix6, Subscriber};
+use aftr_base::{Ip4, Ip6, Moment, NoMemory, Packets, Prefix6, Subscriber};
 use arrayvec::ArrayVec;
 use frag_reasm::{Offer, Piece, PieceKey, Pieces};
 use softwire::{cut4, decap, encap_cut};
@@ -154,10 +154,15 @@ fn piece_in(packet: &[u8]) -> Option<Offered<'_>> {
 }
 
 // Whether the pieces in this order are whole with the last of them, and not before, and have this body then.
-fn is_whole<R: AllocGlobal>(rt: &R, pieces: &[Offered<'_>], order: &[usize], body: &[u8]) -> bool {
+fn is_whole<R: AllocGlobal>(
+    rt: &R,
+    pieces: &[Offered<'_>],
+    order: [usize; 4],
+    body: &[u8],
+) -> bool {
     let mut held = Pieces::new(rt.alloc());
     let mut whole = false;
-    for number in order {
+    for number in order.iter() {
         if let Some((key, piece)) = pieces.get(*number) {
             if whole {
                 return false;
@@ -185,24 +190,32 @@ fn check_orders<R: Abort + AllocGlobal>(rt: &R, cut: Packets, count: usize, body
     }
     for order in ORDERS {
         assert!(rt;
-            is_whole(rt, &pieces, &order, body),
+            is_whole(rt, &pieces, order, body),
             "{order:?} of {} bytes",
             body.len()
         );
     }
 }
 
+// Cuts the packet at the front of these bytes for the public side, and tells whether it is a whole one without options.
+fn cut(bytes: &[u8], out: &mut Packets) -> Result<bool, NoMemory> {
+    let Ok(view) = Ip4View::read(bytes) else {
+        return Ok(false);
+    };
+    if view.has_options() || view.fields().is_piece() {
+        return Ok(false);
+    }
+    cut4(bytes, MTU, out)?;
+    Ok(true)
+}
+
 // The packet cut for the public side, and its pieces in each order.
 fn check_public<R: Abort + AllocGlobal>(rt: &R, total: u16, count: usize) {
     let bytes = packet(rt, total);
     let mut out = Packets::new(rt.alloc());
+    assert!(rt; cut(&bytes, &mut out).expect(rt, "memory for the pieces"));
     match Ip4View::read(&bytes) {
-        Ok(view) => {
-            if !view.has_options() && !view.fields().is_piece() {
-                cut4(&bytes, MTU, &mut out).expect(rt, "memory for the pieces");
-            }
-            check_orders(rt, out, count, view.payload());
-        }
+        Ok(view) => check_orders(rt, out, count, view.payload()),
         Err(bad) => assert!(rt; false, "{bad:?} of {total} bytes"),
     }
 }
