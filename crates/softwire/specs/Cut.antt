@@ -1,6 +1,6 @@
 -- Packets that are longer than a link takes, cut (RFC 791 3.2; RFC 8200 4.5, RFC 6333 5.3).
-use Rattle.std.specs.Prelude.{ℕ, ◌+◌, ◌-◌, ◌*◌, ◌/◌, ◌%◌, Bool, nat_lt, min, List, [], ◌∷◌, ◌++◌, length, map, slice_range, if◌then◌else◌}
-use Rattle.std.specs.List.{range_with_len}
+use Rattle.std.specs.Prelude.{◌≡◌, ◌<◌, ℕ, ◌+◌, ◌-◌, ◌*◌, ◌/◌, ◌%◌, Bool, nat_lt, min, List, [], ◌∷◌, ◌++◌, length, map, slice_range, if◌then◌else◌}
+use Rattle.std.specs.List.{concat, range_with_len}
 use Rattle.aftr_base.specs.declared.value.Ip6.{Ip6}
 use Rattle.wire_ip4.specs.declared.fields.Ip4Fields.{Ip4Fields}
 use Rattle.wire_ip4.specs.Grammar.{Header, header_bytes, header_with}
@@ -18,6 +18,15 @@ piece_of n bytes i = slice_range bytes (n * i) (n * i + n)
 -- whether a further part follows the i-th
 abbrev pub more_follow : ℕ → List ℕ → ℕ → Bool
 more_follow n bytes i = nat_lt (i + 1) (piece_count n bytes)
+
+-- the parts before the i-th, joined in order
+abbrev pub joined_before : ℕ → List ℕ → ℕ → List ℕ
+joined_before n bytes i = concat (map (piece_of n bytes) (range_with_len 0 i))
+
+-- All the parts joined in order are the bytes, and each part's offset, in units of 8 bytes, is where those before it end.
+pub record JoinsAgain (n : ℕ) (bytes : List ℕ) : Type 0 where
+  pub whole : joined_before n bytes (piece_count n bytes) ≡ bytes
+  pub places : (i : ℕ) → i < piece_count n bytes → n * i / 8 * 8 ≡ length (joined_before n bytes i)
 
 -- the greatest multiple of 8 bytes that fits behind so many bytes of headers
 abbrev pub room_of : ℕ → ℕ → ℕ

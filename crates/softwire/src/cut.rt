@@ -1,7 +1,7 @@
 //! Cutting IPv4 packets that are longer than a link takes (RFC 791 section 3.2).
 ghost use Rattle.std.specs.Prelude.{◌≡◌, ◌≤◌, ◌<◌, ◌+◌, ◌*◌, ◌/◌, ◌++◌, ◌∷◌, [], List, ℕ, false, Ok, IfOk, OnErr, OnOk, length, take, drop};
 ghost use Rattle.wire_ip4.specs.Grammar.{Header, header_bytes, header_with, is_piece, packet_of};
-ghost use Rattle.softwire.specs.Cut.{cut_packet, ip4_pieces, piece_fields, piece_of, room_of};
+ghost use Rattle.softwire.specs.Cut.{JoinsAgain, cut_packet, ip4_pieces, piece_fields, piece_of, room_of};
 
 use aftr_base::{NoMemory, Packets};
 use arrayvec::ArrayVec;
@@ -20,6 +20,7 @@ pub fn cut4(datagram: &[u8], mtu: u16, out: &mut Packets) -> Result<(), NoMemory
     ensures ok { OnOk result ((h : Header) (payload : List ℕ)
         → packet_of datagram.now ≡ Ok (h, payload) → h.options ≡ []
         → out.new ≡ out.old ++ cut_packet mtu h payload) }
+    ensures joins { (payload : List ℕ) → JoinsAgain (room_of mtu 20) payload }
     ensures err { OnErr result (out.new ≡ out.old) }
 {
     let Ok(packet) = Ip4View::read(datagram) else {

@@ -2,7 +2,7 @@
 //! behind encapsulation (RFC 2473 section 7.2, RFC 6333 section 5.3, RFC 8200 section 4.5).
 ghost use Rattle.std.specs.Prelude.{◌≡◌, ◌≤◌, ◌<◌, ◌+◌, ◌++◌, length, IfOk, OnErr, OnOk};
 ghost use Rattle.wire_ip6.specs.Grammar.{frag_bytes};
-ghost use Rattle.softwire.specs.Cut.{encapsulated, fragments, is_cut};
+ghost use Rattle.softwire.specs.Cut.{JoinsAgain, encapsulated, fragments, is_cut, room_of};
 ghost use Rattle.softwire.specs.Tunnel.{tunnel_packet};
 
 use crate::cut::{append, front_of, room_of};
@@ -37,6 +37,7 @@ pub fn encap_cut(
     ensures cut { IfOk result (λ cut. cut ≡ is_cut mtu inner.now) }
     ensures ok { OnOk result
         (out.new ≡ out.old ++ encapsulated aftr softwire class mtu id inner.now) }
+    ensures joins { JoinsAgain (room_of mtu 48) inner.now }
     ensures err { OnErr result (out.new ≡ out.old) }
 {
     if 40 + inner.len() <= usize::from(mtu) {

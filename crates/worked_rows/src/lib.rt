@@ -1,7 +1,7 @@
 //! Tests that cross crates: the program's one call over objects in memory, against packets, logs and reports whose
-//! bytes were worked out by hand.
+//! bytes were worked out by hand; and packets that are cut and put together again, which the program doesn't do yet.
 //!
-//! A test is a table of cases and one call of the driver, which makes the only call of the program.
+//! A test of the program is a table of cases and one call of the driver, which makes the only call of the program.
 #![tactic(auto)]
 
 #[cfg(test)]
@@ -10,6 +10,8 @@ mod case;
 mod configs;
 #[cfg(test)]
 mod connections;
+#[cfg(test)]
+mod cuts;
 #[cfg(test)]
 mod driver;
 #[cfg(test)]

@@ -1,6 +1,7 @@
 use Rattle.std.proofs.Common.{◌≡◌, ◌+◌, ◌≤◌, ◌<◌, ℕ, List, length, take, ap, ◌∙◌, arith}
 use Rattle.softwire.specs.Cut.{ip4_pieces, room_of}
 use Rattle.softwire.proofs.Cuts.{on_ok, as_it_stands, in_pieces}
+use Rattle.softwire.proofs.Joins.{joins_again}
 use Rattle.softwire.proofs.cut.cut4.Goals as goal
 
 pub returns-then-payload-from-clause-ok : goal.returns-then-payload-from-clause-ok
@@ -26,3 +27,15 @@ returns-clause-ok c =
     (λ added h rest read bare. in_pieces c.args.mtu bytes c.args.out.now c.append.new.out c.in-Ok.packet (h, rest)
     c.in-Ok.ensures.value read bare c.in_ok-pieces.pieces longer are added)
     c.append.ensures.ok
+
+pub returns-then-payload-from-clause-joins : goal.returns-then-payload-from-clause-joins
+returns-then-payload-from-clause-joins c payload = joins_again c.args.mtu 20 payload (omega (arith, c.requires.mtu))
+
+pub returns-clause-joins : goal.returns-clause-joins
+returns-clause-joins c payload = joins_again c.args.mtu 20 payload (omega (arith, c.requires.mtu))
+
+pub returns-in_err-whole-clause-joins : goal.returns-in_err-whole-clause-joins
+returns-in_err-whole-clause-joins c payload = joins_again c.args.mtu 20 payload (omega (arith, c.requires.mtu))
+
+pub returns-in_err-pieces-clause-joins : goal.returns-in_err-pieces-clause-joins
+returns-in_err-pieces-clause-joins c payload = joins_again c.args.mtu 20 payload (omega (arith, c.requires.mtu))
