@@ -4,16 +4,15 @@ use Rattle.std.proofs.Common.{drop, Option, Some, None, option_map, Ok, nat_le, 
 use Rattle.std.proofs.lemmas.Bool.{and_parts, leb-true, ltb-false, eqb-true, not-true, or_parts}
 use Rattle.std.proofs.lemmas.List.{length-take, length-drop, nil_from_length}
 use Rattle.aftr_base.specs.Attempt.{refused_as}
-use Rattle.aftr_base.specs.Bytes.{be16, be32, be128, u8_at, u16_at}
+use Rattle.aftr_base.specs.Bytes.{be16, be32, be128, u8_at}
 use Rattle.aftr_base.specs.Checksum.{is_sound, adjusted}
 use Rattle.aftr_base.specs.declared.value.Ip6.{Ip6}
 use Rattle.aftr_base.specs.declared.value.Ext.{Ext}
-use Rattle.aftr_base.specs.declared.value.Proto.{Proto}
 use Rattle.aftr_base.specs.declared.event.DropCause.TheVariants.{BadPacket}
 use Rattle.cfg_text.specs.declared.config.Config.{Config}
 use Rattle.softwire.specs.Tunnel.{tunnel_packet}
 use Rattle.wire_ip4.specs.Grammar.{Header, header_bytes, header_of, front_of, len_of, is_piece, packet_of as ip4_packet}
-use Rattle.wire_l4.specs.Grammar.{Segment, Echo, Transport, Ports, Query, segment_bytes, segment_at, sum_bytes, transport_bytes, transport_of}
+use Rattle.wire_l4.specs.Grammar.{Segment, Echo, Transport, Ports, Query, sum_bytes, transport_bytes}
 use Rattle.wire_l4.specs.Places.{replaced, segment_sum}
 use Rattle.xlate_core.specs.State.{is_ours}
 use Rattle.xlate_core.specs.Datagram.{Datagram, datagram_bytes, hairpinned, translated, place_on}

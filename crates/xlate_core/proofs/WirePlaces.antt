@@ -1,5 +1,5 @@
 -- Places of leases fit into an IPv4 header and a UDP header, and are read back from there.
-use Rattle.std.proofs.Common.{◌≡◌, ℕ, ◌+◌, ◌^◌, ◌<◌, ◌≤◌, ◌==◌, Bool, true, false, List, [], ◌∷◌, ◌++◌, option_map, option_to_list, None}
+use Rattle.std.proofs.Common.{◌≡◌, ℕ, ◌^◌, ◌<◌, ◌≤◌, ◌==◌, Bool, true, false, List, [], ◌∷◌, ◌++◌, option_map, option_to_list, None}
 use Rattle.std.proofs.Common.{All, refl, sym, ap, ◌∙◌, subst, arith}
 use Rattle.std.specs.Prelude.{IfSome}
 use Rattle.std.proofs.lemmas.List.Elements.{All-weaker, All-nil, All-cons, All-append}
@@ -11,7 +11,6 @@ use Rattle.aftr_base.specs.Checksum.{adjusted}
 use Rattle.aftr_base.specs.Value.{moment}
 use Rattle.aftr_base.specs.Plan.{is_prefix6}
 use Rattle.aftr_base.specs.declared.value.Ext.{Ext}
-use Rattle.aftr_base.specs.declared.value.Proto.{Proto}
 use Rattle.aftr_base.specs.declared.value.Subscriber.{Subscriber}
 use Rattle.aftr_base.specs.declared.row.LeaseRow.{LeaseRow}
 use Rattle.aftr_base.specs.declared.event.Event.{Event}
