@@ -13,6 +13,8 @@ mod connections;
 #[cfg(test)]
 mod driver;
 #[cfg(test)]
+mod echoes;
+#[cfg(test)]
 mod expiry;
 #[cfg(test)]
 mod faults;
