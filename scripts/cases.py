@@ -107,6 +107,26 @@ NOBODY_LATER, ITSELF_LATER, ITSELF_LATER_SENT = (
 ITSELF_MESSAGE = message(1200, 2, horizon(1_200_000, 1_202_000))
 BOTH_BLOCKS = log_of(FIRST_MESSAGE, message(1000, 2, blocks(OTHER_BLOCK)))
 
+# An echo request with identifier 7, which leaves from 192.0.2.8 with identifier 1024 (RFC 5508 3.1).
+ECHO = """00000051 01 00000000000f4240 60000000 0020 04 40
+    20010db8010000000000000000000002 20010db8000000000000000000000001
+    45000020 00010000 40017ed4 c0000002 cb007105 08001927 00070001 70696e67"""
+ECHO_SENT = """00000029 02 00000000000f4240
+    45000020 00010000 3f017dce c0000208 cb007105 0800152e 04000001 70696e67"""
+# Its reply a millisecond before the mapping's deadline, which is 60 s after the request, and at it.
+ECHO_REPLY = """00000029 02 0000000000102c9f
+    45000020 00010000 40017cce cb007105 c0000208 00001d2e 04000001 70696e67"""
+ECHO_REPLY_SENT = """00000051 01 0000000000102c9f 60000000 0020 04 40
+    20010db8000000000000000000000001 20010db8010000000000000000000002
+    45000020 00010000 3f017fd4 cb007105 c0000002 00002127 00070001 70696e67"""
+LATE_ECHO_REPLY = ECHO_REPLY.replace("102c9f", "102ca0")
+ECHO_CLOSING = message(1060, 2, blocks(closing(1_060_000, FIRST_BLOCK)))
+# The request to 192.0.2.8, from where it comes back with its own identifier.
+ECHO_TO_ITSELF = ECHO.replace("7ed4", "f8d1").replace("cb007105", "c0000208")
+ECHO_TO_ITSELF_SENT = """00000051 01 00000000000f4240 60000000 0020 04 40
+    20010db8000000000000000000000001 20010db8010000000000000000000002
+    45000020 00010000 3f01f9d1 c0000208 c0000002 08001927 00070001 70696e67"""
+
 # ---- runs
 
 RUNS = [
@@ -221,6 +241,29 @@ RUNS = [
         REPLY_SENT,
         FIRST_LOG,
         summary(2, 1, "NoMapping 1"),
+    ),
+    # echo messages
+    run_of(
+        "an echo request and its reply, up to the mapping's deadline",
+        ECHO + ECHO_REPLY + LATE_ECHO_REPLY,
+        ECHO_SENT + ECHO_REPLY_SENT,
+        log_of(FIRST_MESSAGE, ECHO_CLOSING),
+        summary(3, 2, "NoMapping 1"),
+    ),
+    run_of(
+        "an echo request and a datagram get the same port",
+        ECHO + FIRST_PACKET,
+        ECHO_SENT + FIRST_SENT,
+        FIRST_LOG,
+        summary(2, 2),
+    ),
+    run_of("an echo request to its own place", ECHO_TO_ITSELF, ECHO_TO_ITSELF_SENT, FIRST_LOG, summary(1, 1)),
+    run_of(
+        "an echo reply that answers nothing",
+        ECHO.replace("08001927", "00002127"),
+        "",
+        EMPTY_LOG,
+        summary(1, 0, "NoMapping 1"),
     ),
     # the horizon
     run_of(

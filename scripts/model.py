@@ -27,6 +27,7 @@ POOL = range(0xC000_0208, 0xC000_020C)  # 192.0.2.8/30
 BLOCK_SIZE = 512
 FIRST_PORTS = range(1024, 65536 - BLOCK_SIZE + 1, BLOCK_SIZE)
 IDLE = 300_000  # how long a UDP peer is kept (RFC 4787 4.3 asks for two minutes at least)
+ECHO_IDLE = 60_000  # one of echo messages (RFC 5508 3.2)
 TCP_IDLE, TCP_SHORT_IDLE = 7_440_000, 240_000  # a TCP peer, and one that opens or ends (RFC 5382 5, REQ-5)
 HOLD = 120_000  # how long a closed block is kept from other subscribers (RFC 6888 3, REQ-8)
 MAX_MAPPINGS, MAX_PEERS, MAX_BLOCKS = 4_096, 16_384, 8  # of one subscriber (RFC 6888 3, REQ-4)
@@ -36,8 +37,9 @@ SOFTWIRE_MTU = PUBLIC_MTU = 1500
 LAST_INPUT_MOMENT = 4_294_963_695_999
 
 SOFTWIRE, PUBLIC, TICK, CHANGE = 1, 2, 3, 4
-HOP_BY_HOP, IPV4_IN_IPV6, TCP, UDP, FRAGMENT, DESTINATION_OPTIONS = 0, 4, 6, 17, 44, 60
-IPV6_HEADER, IPV4_HEADER, TCP_HEADER, UDP_HEADER, FRAGMENT_HEADER = 40, 20, 20, 8, 8
+HOP_BY_HOP, ICMP, IPV4_IN_IPV6, TCP, UDP, FRAGMENT, DESTINATION_OPTIONS = 0, 1, 4, 6, 17, 44, 60
+IPV6_HEADER, IPV4_HEADER, ICMP_HEADER, TCP_HEADER, UDP_HEADER, FRAGMENT_HEADER = 40, 20, 8, 20, 8, 8
+ECHO_REPLY, ECHO_REQUEST = 0, 8
 FIN, SYN, RST, ACK = 1, 2, 4, 16
 MORE_FRAGMENTS, FRAGMENT_OFFSET, DONT_FRAGMENT = 0x2000, 0x1FFF, 0x4000
 # The causes that are given today, in the order of the report.
@@ -127,7 +129,7 @@ def state_after(state: Optional[str], packet: bytes, is_outbound: bool) -> str:
 
 def idle_of(protocol: int, state: str) -> int:
     if protocol != TCP:
-        return IDLE
+        return ECHO_IDLE if protocol == ICMP else IDLE
     return TCP_SHORT_IDLE if state in ("Opening", "Ending") else TCP_IDLE
 
 
@@ -199,11 +201,15 @@ def ipv4_packet(data: bytes) -> bytes:
 
 
 def require_transport(packet: bytes) -> None:
-    """The transport of an IPv4 packet: a UDP datagram (RFC 768) or a TCP segment (RFC 9293 3.1) with a hop to spare."""
-    require(packet[9] in (TCP, UDP), "NoProtocol")
+    """The transport of an IPv4 packet with a hop to spare: an ICMP echo message that bears its checksum (RFC 792), a UDP
+    datagram (RFC 768) or a TCP segment (RFC 9293 3.1)."""
+    require(packet[9] in (ICMP, TCP, UDP), "NoProtocol")
     require(packet[8] >= 2, "TtlSpent")
     room = len(packet) - IPV4_HEADER
-    if packet[9] == TCP:
+    if packet[9] == ICMP:
+        require(room >= ICMP_HEADER and checksum(covered(packet)) == 0, "BadPacket")
+        require(packet[20] in (ECHO_REPLY, ECHO_REQUEST), "NoProtocol")
+    elif packet[9] == TCP:
         require(room >= TCP_HEADER and TCP_HEADER <= 4 * (packet[32] >> 4) <= room, "BadPacket")
     else:
         require(room >= UDP_HEADER and UDP_HEADER <= word(packet, 24) <= room, "BadPacket")
@@ -242,7 +248,9 @@ def from_public(data: bytes) -> bytes:
 
 
 def covered(packet: bytes) -> bytes:
-    """What the checksum of a packet's transport covers, with zeros behind an odd end (RFC 768, RFC 9293 3.1)."""
+    """What the checksum of a packet's transport covers, with a zero behind an odd end (RFC 768, RFC 9293 3.1, RFC 792)."""
+    if packet[9] == ICMP:
+        return packet[IPV4_HEADER:] + bytes(len(packet) % 2)
     length = word(packet, 24) if packet[9] == UDP else len(packet) - IPV4_HEADER
     transport = packet[IPV4_HEADER : IPV4_HEADER + length]
     return packet[12:20] + struct.pack(">BBH", 0, packet[9], length) + transport + bytes(length % 2)
@@ -250,7 +258,12 @@ def covered(packet: bytes) -> bytes:
 
 def sum_place(packet: bytes) -> int:
     """Where the checksum of a packet's transport stands."""
-    return IPV4_HEADER + (16 if packet[9] == TCP else 6)
+    return IPV4_HEADER + {ICMP: 2, TCP: 16, UDP: 6}[packet[9]]
+
+
+def port_place(packet: bytes, is_source: bool) -> int:
+    """Where a port stands; an echo message has its identifier for a port on both sides (RFC 5508 3.1)."""
+    return IPV4_HEADER + (4 if packet[9] == ICMP else 0 if is_source else 2)
 
 
 def moved(packet: bytes, is_source: bool, place: Place, hops: int = 1) -> bytes:
@@ -258,9 +271,10 @@ def moved(packet: bytes, is_source: bool, place: Place, hops: int = 1) -> bytes:
 
     Its header's checksum is computed anew, and so is that of the transport where it was right. One that was wrong is as
     wrong afterwards: it changes by what is added and taken away, modulo 65535 (RFC 1624). Of UDP none stays none, and a
-    sum of 0 is sent as its other form (RFC 768).
+    sum of 0 is sent as its other form (RFC 768). Of echo messages the sum is always right; one that is all ones because
+    there are only zeros besides becomes 0, as RFC 1624 has it.
     """
-    address_at, port_at = (12, 20) if is_source else (16, 22)
+    address_at, port_at = 12 if is_source else 16, port_place(packet, is_source)
     out = bytearray(packet)
     out[8] -= hops
     out[address_at : address_at + 4] = place.address.to_bytes(4, "big")
@@ -272,7 +286,7 @@ def moved(packet: bytes, is_source: bool, place: Place, hops: int = 1) -> bytes:
         return bytes(out)
     if checksum(covered(packet)) == 0:
         out[sum_at : sum_at + 2] = bytes(2)
-        found = checksum(covered(bytes(out)))
+        found = checksum(covered(bytes(out))) % 0xFFFF
     else:
         taken, added = (
             sum_of(data[address_at : address_at + 4]) + word(data, port_at) for data in (packet, bytes(out))
@@ -371,7 +385,7 @@ class Translator:
             self.inbound(from_public(record.body))
 
     def outbound(self, softwire: int, packet: bytes) -> None:
-        inner = Inner(softwire, number(packet, 12, 4), word(packet, 20), packet[9])
+        inner = Inner(softwire, number(packet, 12, 4), word(packet, port_place(packet, True)), packet[9])
         mapping = self.granted(inner, packet)
         if number(packet, 16, 4) in POOL:
             self.hairpin(mapping, packet)
@@ -383,6 +397,7 @@ class Translator:
         """The mapping that is there, where it may have the packet's remote, or a new one, which has it at once."""
         owner, mapping = subscriber_of(inner.softwire), self.mappings.get(inner)
         if mapping is None:
+            require(packet[9] != ICMP or packet[20] == ECHO_REQUEST, "NoMapping")
             mapping = self.mappings[inner] = Mapping(inner, owner, self.new_place(owner, packet[9]))
             self.touch(mapping, packet)
         elif remote_of(packet, 16, 22) not in mapping.peers:
@@ -398,13 +413,14 @@ class Translator:
     def hairpin(self, mapping: Mapping, packet: bytes) -> None:
         """A packet to the pool goes to the mapping there, from its own external place, by one hop (RFC 4787 6, RFC 5382 7.2).
 
-        Where it is refused, an old mapping keeps its peers as they were, and a new one has the peer that it was made with.
+        An echo message has its sender's external identifier by then, and goes to the mapping that has the same one. Where
+        a packet is refused, an old mapping keeps its peers as they were, and a new one has the peer that it was made with.
         """
-        target = self.target_of(packet)
+        from_outside = moved(packet, True, mapping.place)
+        target = self.target_of(from_outside)
         require(self.admits(target, mapping.place.address), "Filtered")
         require(IPV6_HEADER + len(packet) <= SOFTWIRE_MTU, "NoProtocol")
         self.touch(mapping, packet)
-        from_outside = moved(packet, True, mapping.place)
         self.follow(target, from_outside)
         self.send_from(mapping, SOFTWIRE, delivered(target.inner, from_outside, 0))
 
@@ -421,7 +437,7 @@ class Translator:
 
     def target_of(self, packet: bytes) -> Mapping:
         """The mapping of the packet's protocol whose place is its destination."""
-        found = self.mapping_at(Place(number(packet, 16, 4), word(packet, 22)), packet[9])
+        found = self.mapping_at(Place(number(packet, 16, 4), word(packet, port_place(packet, False))), packet[9])
         if found is None:
             raise Drop("NoMapping")
         return found

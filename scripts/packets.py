@@ -7,7 +7,8 @@ from typing import NamedTuple, Optional, Union
 
 AFTR = 0x2001_0DB8_0000_0000_0000_0000_0000_0001
 AGGREGATE = 0x2001_0DB8_0100_0000_0000_0000_0000_0000
-TCP, UDP, IPV4_IN_IPV6 = 6, 17, 4
+ICMP, TCP, UDP, IPV4_IN_IPV6 = 1, 6, 17, 4
+ECHO_REPLY, ECHO_REQUEST = 0, 8
 FIN, SYN, RST, ACK = 1, 2, 4, 16
 DONT_FRAGMENT, MORE_FRAGMENTS, RESERVED = 0x4000, 0x2000, 0x8000
 FROM_SOFTWIRE, FROM_PUBLIC, TICK, CHANGE = 1, 2, 3, 4
@@ -106,7 +107,40 @@ class Tcp(NamedTuple):
         return spelled_ipv4(self, self.segment())
 
 
-def spelled_ipv4(packet: Union[Udp, Tcp], body: bytes) -> bytes:
+class Echo(NamedTuple):
+    """An IPv4 packet with an ICMP echo message (RFC 792). What is None is what it should be."""
+
+    source: int = quad("192.0.0.2")
+    destination: int = quad("203.0.113.5")
+    identifier: int = 7
+    sequence: int = 1
+    payload: bytes = b"ping"
+    kind: int = ECHO_REQUEST
+    code: int = 0
+    version: int = 4
+    words: Optional[int] = None  # the header's length in its field
+    tos: int = 0
+    total: Optional[int] = None
+    ident: int = 1
+    fragment: int = 0  # the flags and the fragment offset
+    ttl: int = 64
+    proto: int = ICMP
+    sum_wrong_by: int = 0
+    options: bytes = b""
+    message_sum: Optional[int] = None
+    kept: Optional[int] = None  # so many of its bytes are left
+
+    def message(self) -> bytes:
+        front = struct.pack(">BB", self.kind, self.code)
+        behind = struct.pack(">HH", self.identifier, self.sequence) + self.payload
+        right = checksum(front + bytes(2) + behind)
+        return front + struct.pack(">H", right if self.message_sum is None else self.message_sum) + behind
+
+    def spelled(self) -> bytes:
+        return spelled_ipv4(self, self.message())
+
+
+def spelled_ipv4(packet: Union[Udp, Tcp, Echo], body: bytes) -> bytes:
     """The IPv4 header of a packet, and its transport behind it."""
     words = 5 + len(packet.options) // 4 if packet.words is None else packet.words
     total = 20 + len(packet.options) + len(body) if packet.total is None else packet.total

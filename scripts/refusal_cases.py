@@ -9,12 +9,14 @@ from __future__ import annotations
 
 from typing import Any, Dict, Iterator, List, NamedTuple, Optional, Sequence
 
-from packets import ACK, AFTR, DONT_FRAGMENT, FIN, FROM_PUBLIC, FROM_SOFTWIRE, MORE_FRAGMENTS, RESERVED, RST, SYN
-from packets import Softwire, Tcp, Udp, frame, quad, softwire_of
+from packets import ACK, AFTR, DONT_FRAGMENT, FIN, FROM_PUBLIC, FROM_SOFTWIRE, ICMP, MORE_FRAGMENTS, RESERVED, RST, SYN
+from packets import ECHO_REPLY, Echo, Softwire, Tcp, Udp, frame, quad, softwire_of
 
 MOMENT = 1_000_000
 FIRST_PACKET = frame(FROM_SOFTWIRE, MOMENT, Softwire().spelled())
 REPLY = Udp(quad("203.0.113.5"), 53, quad("192.0.2.8"), 1024)
+FIRST_ECHO = frame(FROM_SOFTWIRE, MOMENT, Softwire(Echo().spelled()).spelled())
+ANSWER = Echo(quad("203.0.113.5"), quad("192.0.2.8"), 1024, kind=ECHO_REPLY)
 MTU = 1500
 POOL = quad("192.0.2.8")
 Changes = Dict[str, Any]
@@ -76,10 +78,11 @@ UNROUTED = [
     Fault(f"a source of {text}", "NoRoute", {"source": quad(text)}) for text in ("0.0.0.1", "127.9.9.9", "224.0.0.1")
 ]
 TRANSPORTS = [
-    Fault("ICMP", "NoProtocol", {"proto": 1}),
+    Fault("IGMP", "NoProtocol", {"proto": 2}),
     Fault("GRE", "NoProtocol", {"proto": 47}),
     Fault("no hop", "TtlSpent", {"ttl": 0}),
     Fault("one hop", "TtlSpent", {"ttl": 1}),
+    Fault("no ICMP message", "BadPacket", {"proto": ICMP}),
     Fault("no TCP segment", "BadPacket", {"proto": 6}),
     Fault("a datagram that is cut in its header", "BadPacket", {"total": 27}),
     Fault("a datagram's length below its header's", "BadPacket", {"udp_length": 7}),
@@ -192,6 +195,84 @@ def segments() -> Iterator[Refusal]:
     yield Refusal("in: TCP, to the port of a UDP mapping", input_of(to_udp, FROM_PUBLIC, False), "NoMapping")
 
 
+# ICMP: what breaks a rule of an echo message, in the order of the rules (RFC 792, RFC 5508 3).
+MESSAGES = [
+    Fault("a piece", "NoProtocol", {"fragment": MORE_FRAGMENTS}),
+    Fault("a source that isn't routed", "NoRoute", {"source": quad("127.9.9.9")}),
+    Fault("another protocol", "NoProtocol", {"proto": 47}),
+    Fault("one hop", "TtlSpent", {"ttl": 1}),
+    Fault("a message of 7 bytes", "BadPacket", {"total": 27}),
+    Fault("a message without its last byte", "BadPacket", {"total": 31, "payload": b"ping"}),
+    Fault("a wrong sum", "BadPacket", {"message_sum": 0x1234}),
+    Fault("no sum", "BadPacket", {"message_sum": 0}),
+    *[Fault(f"a message of type {kind}", "NoProtocol", {"kind": kind}) for kind in (3, 4, 5, 11, 12, 13, 15, 7, 9, 1, 255)],
+]
+ECHO_TOO_LONG: Changes = {"fragment": DONT_FRAGMENT, "payload": bytes(MTU - 28 + 1)}
+ECHOES_FROM_SUBSCRIBERS = [
+    *MESSAGES,
+    Fault("an address without a mapping", "NoMapping", {"destination": POOL + 1}),  # where nothing is too big
+    Fault("a message that may not be cut", "TooBig", ECHO_TOO_LONG),
+    Fault("a message that would be cut", "NoProtocol", {"payload": bytes(MTU - 28 + 1)}),
+    Fault("a reply to nobody", "NoMapping", {"kind": ECHO_REPLY, "identifier": 8}),
+]
+ECHOES_FROM_OUTSIDE = [
+    *MESSAGES,
+    Fault("an identifier without a mapping", "NoMapping", {"identifier": 1025}),
+    Fault("an address without a mapping", "NoMapping", {"destination": POOL + 1}),
+    Fault("a message that would be cut", "NoProtocol", {"payload": bytes(MTU - 40 - 28 + 1)}),
+]
+# What passes, either way.
+ECHOES: Dict[str, Changes] = {
+    "a request": {"kind": 8},
+    "a reply": {"kind": ECHO_REPLY},
+    "a request of another code": {"kind": 8, "code": 3},
+    "a reply of another code": {"kind": ECHO_REPLY, "code": 255},
+    "no data": {"payload": b""},
+    "an odd number of bytes": {"payload": b"odd"},
+    "two hops": {"ttl": 2},
+}
+
+
+def around_echoes(body: bytes, kind: int) -> List[bytes]:
+    """The records of an input with this packet between an echo request and its reply."""
+    return [FIRST_ECHO, frame(kind, MOMENT, body), frame(FROM_PUBLIC, MOMENT, ANSWER.spelled())]
+
+
+def echo_out(name: str, cause: Optional[str], echo: Changes, around: Changes = {}) -> Refusal:
+    body = Softwire(Echo(**echo).spelled(), **around).spelled()
+    return Refusal(f"out: echo, {name}", around_echoes(body, FROM_SOFTWIRE), cause)
+
+
+def echo_in(name: str, cause: Optional[str], echo: Changes) -> Refusal:
+    return Refusal(f"in: echo, {name}", around_echoes(ANSWER._replace(**echo).spelled(), FROM_PUBLIC), cause)
+
+
+def echoes() -> Iterator[Refusal]:
+    """Echo messages, beside a mapping of identifier 7 at identifier 1024, or where UDP alone has that port."""
+    for fault in with_pairs(ECHOES_FROM_SUBSCRIBERS):
+        yield echo_out(fault.name, fault.cause, fault.udp)
+    for fault in with_pairs(ECHOES_FROM_OUTSIDE):
+        yield echo_in(fault.name, fault.cause, fault.udp)
+    for name, changes in ECHOES.items():
+        yield echo_out(name, None, changes)
+        yield echo_out(f"{name}, to its own place", None, {**changes, "destination": POOL})
+        yield echo_in(name, None, changes)
+    new: Changes = {"identifier": 8, "destination": POOL}
+    yield echo_out("to its own new place", None, new)
+    yield echo_out("a reply to its own new place", "NoMapping", {**new, "kind": ECHO_REPLY})
+    yield echo_out("a reply by another softwire", "NoMapping", {"kind": ECHO_REPLY}, {"source": softwire_of(0, 3)})
+    yield echo_out("a request by another softwire", None, {}, {"source": softwire_of(0, 3)})
+    yield echo_out("as long as may be", None, {"fragment": DONT_FRAGMENT, "payload": bytes(MTU - 28)})
+    yield echo_out("too long for a softwire", "NoProtocol", {"destination": POOL, "payload": bytes(MTU - 40 - 28 + 1)})
+    yield echo_out("as long as a softwire takes", None, {"destination": POOL, "payload": bytes(MTU - 40 - 28)})
+    yield echo_in("as long as a softwire takes", None, {"payload": bytes(MTU - 40 - 28)})
+    yield echo_in("from another remote", None, {"source": quad("198.51.100.1")})
+    yield Refusal("in: echo, to a port of UDP", input_of(ANSWER.spelled(), FROM_PUBLIC, False), "NoMapping")
+    beside_echo = Softwire(Udp(destination=POOL, port=1025).spelled(), source=softwire_of(1)).spelled()
+    yield Refusal("out: UDP, to a place of echo", around_echoes(beside_echo, FROM_SOFTWIRE), "NoMapping")
+    yield Refusal("in: UDP, to a place of echo", around_echoes(REPLY.spelled(), FROM_PUBLIC), "NoMapping")
+
+
 # Pairs of neighbours that are faults of one field, and packets that a rule leaves to a later one.
 MORE_FROM_SUBSCRIBERS = [
     from_subscriber("a piece that may not be cut", "NoProtocol", {"fragment": DONT_FRAGMENT | MORE_FRAGMENTS}, {}),
@@ -248,6 +329,16 @@ def by_address() -> Iterator[Refusal]:
         from_subscriber("to its own new place", None, new_place, {}),
         from_subscriber("to its own new place, too long", "NoProtocol", {**new_place, **too_long}, {}),
         from_subscriber("to its own new place by TCP", None, {}, {"inner": Tcp(**OWN_PLACE).spelled()}),
+    ]
+    other_remote: Changes = {"source": quad("203.0.113.6")}
+    found += [
+        echo_in("another address", "Filtered", other_remote),
+        echo_in("another address, a request", "Filtered", {**other_remote, "kind": 8}),
+        echo_in("another address, too long", "Filtered", {**other_remote, "payload": bytes(MTU - 40 - 28 + 1)}),
+        echo_in("another address, to no mapping", "NoMapping", {**other_remote, "identifier": 1025}),
+        echo_in("another address, another message", "NoProtocol", {**other_remote, "kind": 13}),
+        echo_out("to its own place", "Filtered", {"destination": POOL}),
+        echo_out("to its own new place", None, {"destination": POOL, "identifier": 8}),
     ]
     yield from (refusal._replace(name=f"by address, {refusal.name}", is_by_address=True) for refusal in found)
 
@@ -317,6 +408,22 @@ def refused_grants() -> Iterator[Refusal]:
     yield last("all peers, to its own place", all_peers, "QuotaPeers", to_pool)
     yield last("all peers, to no mapping", all_peers, "QuotaPeers", {"destination": POOL})
     yield last("all peers, may not be cut", all_peers, "TooBig", TOO_LONG)
+    reply: Changes = {"kind": ECHO_REPLY}
+    yield last_echo("all mappings, a reply", all_mappings, "NoMapping", reply)
+    yield last_echo("all mappings, a request", all_mappings, "QuotaMappings", {})
+    yield last_echo("all peers, a reply", all_peers, "NoMapping", reply)
+    yield last_echo("all peers, a request", all_peers, "QuotaPeers", {})
+    yield last_echo("a full address and a full block of UDP, a request", full_address, None, {})
+    yield last_echo("a full pool, a reply", full_pool, "NoMapping", reply, 504)
+    yield last_echo("a full pool, a request", full_pool, "PoolEmpty", {}, 504)
+    all_peers[-1] = FIRST_ECHO
+    other_remote: Changes = {"kind": ECHO_REPLY, "destination": quad("203.0.113.6")}
+    yield last_echo("all peers, a reply to another remote", all_peers, "QuotaPeers", other_remote)
+
+
+def last_echo(name: str, before: List[bytes], cause: Optional[str], echo: Changes, subscriber: int = 0) -> Refusal:
+    body = Softwire(Echo(**echo).spelled(), source=softwire_of(subscriber)).spelled()
+    return Refusal(f"out: echo, {name}", [*before, frame(FROM_SOFTWIRE, MOMENT, body)], cause)
 
 
 def refusals() -> Iterator[Refusal]:
@@ -331,4 +438,5 @@ def refusals() -> Iterator[Refusal]:
     yield from by_address()
     yield from PASSING
     yield from segments()
+    yield from echoes()
     yield from refused_grants()

@@ -9,8 +9,8 @@ from typing import Callable, List, NamedTuple, Optional, Sequence
 
 import model
 from log_form import Place, Told
-from model import CHANGE, PUBLIC, SOFTWIRE, TCP, TICK, UDP, Inner, Mapping, Remote, Translator
-from packets import ACK, FIN, RST, SYN, Softwire, Tcp, Udp, checksum, softwire_of
+from model import CHANGE, ICMP, PUBLIC, SOFTWIRE, TCP, TICK, UDP, Inner, Mapping, Remote, Translator
+from packets import ACK, FIN, RST, SYN, Echo, Softwire, Tcp, Udp, checksum, softwire_of
 from refusal_cases import FROM_OUTSIDE, FROM_SUBSCRIBERS, Fault
 
 RUN = ["run", "config", "log", "out", "in"]
@@ -80,6 +80,13 @@ TCP_EDITS = [
     Edit(33, 1, range(64)),  # control bits
     Edit(36, 2, (0, 1, 0x8000, 0xFFFE, 0xFFFF)),  # checksum
 ]
+ECHO_EDITS = [
+    Edit(20, 1, (0, 3, 4, 5, 8, 9, 11, 12, 13, 255)),  # type
+    Edit(21, 1, (0, 1, 4, 255)),  # code
+    Edit(22, 2, (0, 1, 0x8000, 0xFFFE, 0xFFFF)),  # checksum
+    Edit(24, 2, (0, 1, 0x0400, 0xFFFF)),  # identifier
+    Edit(26, 2, (0, 1, 0xFFFF)),  # sequence number
+]
 FLAGS = [SYN, SYN | ACK, ACK, ACK, ACK | 8, FIN, FIN | ACK, FIN | SYN, RST, RST | ACK, RST | FIN | SYN, 0]
 IPV6_EDITS = [
     Edit(0, 1, (0x00, 0x45, 0x50, 0x70, 0xF0)),  # version
@@ -111,7 +118,7 @@ EXTENSIONS = [
 def edited(rng: random.Random, packet: bytearray) -> bytearray:
     """The IPv4 packet after an edit or two, mostly with its header's checksum made right again; or cut."""
     for _ in range(rng.choice((1, 1, 1, 2))):
-        transport = TCP_EDITS if packet[9] == TCP and len(packet) >= 40 else UDP_EDITS
+        transport = TCP_EDITS if packet[9] == TCP and len(packet) >= 40 else ECHO_EDITS if packet[9] == ICMP else UDP_EDITS
         rng.choice(rng.choice((IPV4_EDITS, IPV4_EDITS, transport))).apply(rng, packet)
     with_sum(packet)
     if rng.random() < 0.15:
@@ -119,6 +126,21 @@ def edited(rng: random.Random, packet: bytearray) -> bytearray:
     if rng.random() < 0.1:
         del packet[rng.randrange(len(packet)) :]
     return packet
+
+
+def with_message_sum(packet: bytearray) -> bytearray:
+    """The packet with the right checksum of its ICMP message, where it has the room for one."""
+    if len(packet) >= 28 and packet[9] == ICMP:
+        packet[22:24] = bytes(2)
+        packet[22:24] = struct.pack(">H", checksum(bytes(packet[20:])))
+    return packet
+
+
+def with_echo_sum_to_zero(packet: bytearray, change: Callable[[bytes], bytes]) -> bytearray:
+    """The echo message with a sequence number by which its sum is zero once it is changed like this."""
+    packet[26:28] = bytes(2)
+    packet[26:28] = change(bytes(with_message_sum(packet)))[22:24]
+    return with_message_sum(packet)
 
 
 def with_sums_to_zero(rng: random.Random, packet: bytearray, change: Callable[[bytes], bytes]) -> bytearray:
@@ -229,11 +251,14 @@ class Session:
     def outbound(self) -> None:
         """A packet of a subscriber, which may be edited at every layer, or break a rule or more."""
         rng = self.rng
-        protocol = rng.choice((UDP, UDP, TCP))
+        protocol = rng.choice((UDP, UDP, UDP, TCP, TCP, ICMP))
         inner = Inner(rng.choice(self.softwires), rng.choice(INNERS), rng.choice(self.ports), protocol)
         remote, around = self.remote(inner), Softwire(source=inner.softwire)
         if protocol == TCP and rng.random() < 0.8:
             self.segment_out(inner, remote)
+            return
+        if protocol == ICMP:
+            self.echo_out(inner, remote.address)
             return
         payload = self.payload((1431, 1432, 1433, 1471, 1472, 1473))
         udp = Udp(inner.address, inner.port, *remote, payload, ident=rng.randrange(65536))
@@ -291,6 +316,39 @@ class Session:
             packet = edited(rng, packet)
         self.add(PUBLIC, packet)
 
+    def echo(self, source: int, destination: int, identifier: int, requests: float, edges: Sequence[int]) -> Echo:
+        """An echo message, which is a request in this share of them, and seldom another message."""
+        rng = self.rng
+        kind = rng.choice((3, 5, 11, 12, 13)) if rng.random() < 0.03 else 8 if rng.random() < requests else 0
+        payload = self.payload(edges) if rng.random() < 0.9 else bytes(rng.randrange(4))
+        echo = Echo(source, destination, identifier, rng.choice((0, 1, 0xFFFF)), payload, kind)
+        return echo._replace(code=rng.choice((0, 0, 0, 0, 1, 255)), ttl=rng.choice((64,) * 12 + (2, 2, 1)))
+
+    def changed_echo(self, echo: Echo, change: Optional[Callable[[bytes], bytes]]) -> bytes:
+        """Its packet, which may be edited, or have a sum that is zero once it is changed."""
+        rng, packet = self.rng, bytearray(echo.spelled())
+        step = rng.random()
+        if step < 0.15 and change is not None and echo.ttl > 1:
+            return bytes(with_echo_sum_to_zero(packet, change))
+        if step < 0.3:
+            packet = edited(rng, packet)
+            return bytes(with_message_sum(packet) if rng.random() < 0.6 else packet)
+        return bytes(packet + rng.randbytes(rng.choice((0, 0, 0, 0, 1, 7))))
+
+    def echo_out(self, inner: Inner, destination: int) -> None:
+        """An echo message of a subscriber, which may be edited."""
+        mapping = self.state.mappings.get(inner)
+        echo = self.echo(inner.address, destination, inner.port, 0.7, (1431, 1432, 1433, 1471, 1472, 1473))
+        change = None if mapping is None else self.change_out(mapping, Remote(destination, mapping.place.port))
+        packet = self.changed_echo(echo, change)
+        self.add(SOFTWIRE, Softwire(packet, inner.softwire).spelled())
+
+    def echo_in(self, mapping: Mapping) -> None:
+        """An echo message to a live place, which may be edited."""
+        remote = self.rng.choice(list(mapping.peers)) if self.rng.random() < 0.8 else Remote(self.rng.choice(REMOTES))
+        echo = self.echo(remote.address, *mapping.place, 0.3, (1431, 1432, 1433))
+        self.add(PUBLIC, self.changed_echo(echo, change_in(mapping)))
+
     def reply(self) -> None:
         """A packet to the pool: to a live place, to one that was live, or beside; it may break a rule or more."""
         rng = self.rng
@@ -299,7 +357,14 @@ class Session:
         if mapping is not None and mapping.inner.protocol == TCP and rng.random() < 0.9:
             self.segment_in(mapping)
             return
+        if mapping is not None and mapping.inner.protocol == ICMP and rng.random() < 0.9:
+            self.echo_in(mapping)
+            return
         beside = Place(rng.choice(model.POOL), rng.choice(EDGE_PORTS))
+        if rng.random() < 0.1:
+            echo = self.echo(rng.choice(REMOTES), *(mapping.place if mapping else beside), 0.3, (1431, 1432, 1433))
+            self.add(PUBLIC, self.changed_echo(echo, None))
+            return
         remote = rng.choice(list(model.POOL) if rng.random() < 0.04 else REMOTES + INNERS)
         place = mapping.place if mapping else beside
         payload = self.payload((1431, 1432, 1433, 1472))
@@ -428,6 +493,27 @@ def inward(rng: random.Random) -> Session:
     for _ in range(rng.randint(10, 100)):
         step = rng.random()
         (session.outbound if step < 0.85 else session.reply if step < 0.95 else session.other)()
+    return session
+
+
+def echoes(rng: random.Random) -> Session:
+    """Echo messages both ways, and between subscribers of two addresses who have the same ports there."""
+    session = Session(rng)
+    if rng.random() < 0.5:
+        for subscriber in range(128):
+            session.plain(softwire_of(subscriber, 2), 5000, session.start)
+        session.softwires = [softwire_of(subscriber, 2) for subscriber in (0, 1, 126, 127)]
+    for _ in range(rng.randint(20, 120)):
+        live = [row for row in session.state.mappings.values() if row.inner.protocol == ICMP]
+        step = rng.random()
+        if step < 0.55 or not live:
+            inner = Inner(rng.choice(session.softwires), INNERS[0], rng.choice((0, 7, 8, 1024, 65535)), ICMP)
+            address = rng.choice(model.POOL[:2]) if step < 0.3 else rng.choice(REMOTES)
+            session.echo_out(inner, address)
+        elif step < 0.9:
+            session.echo_in(rng.choice(live))
+        else:
+            (session.outbound if step < 0.95 else session.other)()
     return session
 
 

@@ -15,6 +15,8 @@ mod cuts;
 #[cfg(test)]
 mod driver;
 #[cfg(test)]
+mod echoes;
+#[cfg(test)]
 mod expiry;
 #[cfg(test)]
 mod faults;
