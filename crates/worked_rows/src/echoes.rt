@@ -1,7 +1,7 @@
 //! Echo messages and the identifiers that they have for ports (RFC 792, RFC 5508 section 3).
 
 use crate::case::{Case, RUN};
-use crate::driver::{check, check_all};
+use crate::driver::check_all;
 use crate::logs::{Frame, LogFile};
 use crate::packets::{FIRST_FRAME, FIRST_SENT, HEAD, PACKET, TUNNEL};
 use aftr_base::DropCause;
@@ -96,33 +96,34 @@ static PASSING: [Case<'static>; 4] = [
     },
 ];
 
-// What stands behind a subscriber's IPv4 header, and why it is dropped.
-static REFUSED: [(&str, &str, Case<'static>); 5] = [
-    (
-        "a reply without a mapping",
-        ANSWER,
-        Case {
-            report: "records 1\nsent 0\nmarks 0\ndrop NoMapping 1\n",
-            drops: &[(DropCause::NoMapping, 1)],
-            ..RUN
-        },
-    ),
-    (
-        "a wrong checksum",
-        "08 00 1928 0007 0001 70696e67",
-        BAD_PACKET,
-    ),
-    ("no checksum", "08 00 0000 0007 0001 70696e67", BAD_PACKET),
-    (
-        "a timestamp, of type 13",
-        "0d 00 1427 0007 0001 70696e67",
-        NO_PROTOCOL,
-    ),
-    (
-        "an error, of type 3",
-        "03 00 1e27 0007 0001 70696e67",
-        NO_PROTOCOL,
-    ),
+static REFUSED: [Case<'static>; 5] = [
+    Case {
+        name: "a reply without a mapping",
+        input: &[HEAD, TUNNEL, INNER, ANSWER],
+        report: "records 1\nsent 0\nmarks 0\ndrop NoMapping 1\n",
+        drops: &[(DropCause::NoMapping, 1)],
+        ..RUN
+    },
+    Case {
+        name: "a wrong checksum",
+        input: &[HEAD, TUNNEL, INNER, "08 00 1928 0007 0001 70696e67"],
+        ..BAD_PACKET
+    },
+    Case {
+        name: "no checksum",
+        input: &[HEAD, TUNNEL, INNER, "08 00 0000 0007 0001 70696e67"],
+        ..BAD_PACKET
+    },
+    Case {
+        name: "a timestamp, of type 13",
+        input: &[HEAD, TUNNEL, INNER, "0d 00 1427 0007 0001 70696e67"],
+        ..NO_PROTOCOL
+    },
+    Case {
+        name: "an error, of type 3",
+        input: &[HEAD, TUNNEL, INNER, "03 00 1e27 0007 0001 70696e67"],
+        ..NO_PROTOCOL
+    },
 ];
 
 const BAD_PACKET: Case<'static> = Case {
@@ -144,15 +145,5 @@ fn echo_messages_that_get_through(rt: HostRuntime) {
 
 #[test]
 fn messages_that_are_refused(rt: HostRuntime) {
-    for (name, message, ending) in REFUSED {
-        let input = [HEAD, TUNNEL, INNER, message];
-        check(
-            &rt,
-            &Case {
-                name,
-                input: &input,
-                ..ending
-            },
-        );
-    }
+    check_all(&rt, &REFUSED);
 }
