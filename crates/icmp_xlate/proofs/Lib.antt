@@ -7,3 +7,6 @@ pub mod Packets
 pub mod MadeErrors
 pub mod Sums
 pub mod Reading
+pub mod ErrorPackets
+pub mod ErrorLengths
+pub mod ErrorPlaces

@@ -10,13 +10,14 @@ use Rattle.aftr_base.specs.Checksum.{sum16}
 use Rattle.aftr_base.specs.declared.value.Ext.{Ext}
 use Rattle.wire_ip4.specs.Grammar.{Header, header_bytes}
 use Rattle.wire_ip4.proofs.GrammarLaws.{all_after}
+use Rattle.wire_ip4.proofs.SumLaws.{sound_readdressed}
 use Rattle.wire_l4.specs.Grammar.{Transport, transport_bytes}
 use Rattle.wire_icmp.specs.Quoted.{quoted_transport, quoted_bytes, Report, report_bytes, SpellsReport}
 use Rattle.wire_icmp.proofs.Fronts.{front_read}
 use Rattle.icmp_xlate.specs.Translated.{SpellsError, error_with, readdressed, translated}
 use Rattle.icmp_xlate.proofs.Headers.{head_long, head_taken, head_dropped, is_readdressed}
 use Rattle.icmp_xlate.proofs.Quotes.{put_behind, is_translated}
-use Rattle.icmp_xlate.proofs.Sums.{header_sound, report_sound}
+use Rattle.icmp_xlate.proofs.Sums.{report_sound}
 
 -- ---- lengths
 
@@ -106,7 +107,7 @@ module _ (source : Bool) (new : Ext) (old now : List ℕ) (h : Header) (r : Repo
       let was : take 20 old ≡ header_bytes h = ap (take 20) e.spelled ∙ head_taken h (report_bytes r) e.plain in
       let is : take 20 now ≡ header_bytes h' =
       ap (take 20) value ∙ head_taken h' (report_bytes (translated (not source) new r)) e.plain in
-      ap sum16 is ∙ header_sound source new.addr h e.header e.plain addr (ap sum16 (sym was) ∙ sound)
+      ap sum16 is ∙ sound_readdressed source new.addr h e.header addr (ap sum16 (sym was) ∙ sound)
 
   pub rest_is_sound : sum16 (drop 20 old) ≡ 65535 → sum16 (drop 20 now) ≡ 65535
   rest_is_sound sound =

@@ -22,7 +22,6 @@ use Rattle.wire_l4.proofs.Segments.{in_row}
 use Rattle.wire_icmp.specs.Quoted.{Quoted, IsQuoted, QuotesTcp, ReachesSum, SpellsQuoted, quoted_bytes, quoted_place}
 use Rattle.wire_icmp.specs.Quoted.{Report, report_bytes, SpellsReport}
 use Rattle.icmp_xlate.specs.Translated.{readdressed, sum_in, quoted_with, quoted_words, words_with, translated}
-use Rattle.icmp_xlate.proofs.Headers.{is_readdressed}
 use Rattle.icmp_xlate.proofs.Fronts.{place_replaced, words_count}
 use Rattle.icmp_xlate.proofs.Quotes.{is_translated}
 
@@ -261,31 +260,6 @@ completed (suc n) some =
 along : (rest old new before after : ℕ) → before ≡ rest + old → after ≡ rest + new → new % 65535 ≡ old % 65535 → 1 ≤ after
     → ones_sum before ≡ 65535 → ones_sum after ≡ 65535
 along rest old new before after p q same some full = all_ones after some (let none = ones_all before full in omega arith)
-
--- ---- a header
-
-address_small : (a : Ip4) → a.0 < 2 ^ 32 → AllByRecursion (λ m. m ≤ 65535) (address_words a.0)
-address_small a fits = (omega arith, (omega arith, tt))
-
-address_now : (source : Bool) (addr : Ip4) (h : Header) → address_on source (readdressed source addr h) ≡ addr
-address_now true addr h = refl
-address_now false addr h = refl
-
-pub header_sound : (source : Bool) (addr : Ip4) (h : Header) → IsHeader h → h.options ≡ [] → addr.0 < 2 ^ 32
-    → sum16 (header_bytes h) ≡ 65535 → sum16 (header_bytes (readdressed source addr h)) ≡ 65535
-header_sound source addr h is bare fits sound =
-    let h' = readdressed source addr h in
-    let old = address_words (address_on source h).0 in
-    let new = address_words addr.0 in
-    let same = adjust_is_congruent h.sum old new (address_small addr fits) refl in
-    let before = ap (λ (l : List ℕ). sum (words_of l)) (sym (append-nil (header_bytes h))) ∙ side_counts source h [] is bare in
-    let after = ap (λ (l : List ℕ). sum (words_of l)) (sym (append-nil (header_bytes h')))
-    ∙ side_counts source h' [] (is_readdressed source addr h is fits) bare in
-    let now : sum (address_words (address_on source h').0) ≡ sum new =
-    ap (λ (a : Ip4). sum (address_words a.0)) (address_now source addr h) in
-    along (others h + stays source h) (h.sum + sum old) (h'.sum + sum new) (sum (words_of (header_bytes h)))
-    (sum (words_of (header_bytes h'))) (omega (arith, before)) (omega (arith, after, now, stays_there source addr h)) same
-    (omega (arith, after)) sound
 
 -- ---- an error
 

@@ -1,3 +1,4 @@
 -- Definitions of ICMP errors under translation.
 pub mod Translated
 pub mod Made
+pub mod Errors

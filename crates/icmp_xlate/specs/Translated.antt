@@ -1,19 +1,13 @@
 -- An ICMP error whose quoted packet is translated with it (RFC 5508 4, RFC 3022 4.3).
 use Rattle.std.specs.Prelude.{◌≡◌, ℕ, Bool, not, List, [], ◌∷◌, ◌++◌, Option, Some, option_map, option_to_list, if◌then◌else◌}
-use Rattle.aftr_base.specs.Checksum.{adjusted, address_words}
-use Rattle.aftr_base.specs.declared.value.Ip4.{Ip4}
+use Rattle.aftr_base.specs.Checksum.{adjusted}
 use Rattle.aftr_base.specs.declared.value.Ext.{Ext}
 use Rattle.aftr_base.specs.declared.value.Proto.TheVariants.{Tcp}
 use Rattle.wire_ip4.specs.Grammar.{Header, IsHeader, header_bytes}
-use Rattle.wire_ip4.specs.Forwarded.{address_on, with_address}
+pub use Rattle.wire_ip4.specs.Forwarded.{readdressed}
 use Rattle.wire_l4.specs.Grammar.{Segment, Transport, Ports, Query}
 use Rattle.wire_l4.specs.Places.{place_words, replaced, segment_sum}
 use Rattle.wire_icmp.specs.Quoted.{Quoted, Report, SpellsReport, quoted_place, report_bytes}
-
--- A header after one address became another: the TTL stays, and the checksum follows the address alone.
-abbrev pub readdressed : Bool → Ip4 → Header → Header
-readdressed source addr h =
-    record (with_address source addr h) { sum = adjusted h.sum (address_words (address_on source h).0) (address_words addr.0) }
 
 -- a TCP segment after the place on one side became another
 abbrev pub segment_with : Bool → Ext → Ext → Segment → Segment

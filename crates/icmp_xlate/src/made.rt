@@ -59,8 +59,7 @@ impl MadeError {
 /// address on the tunnel (RFC 6333 section 5.7), to the packet's source, with a TTL of 64, DF set, and
 /// TOS and identification 0. It quotes the packet's header as it stands and the first 8 bytes behind it,
 /// or all of them where there are fewer; they end at its total length. About an ICMP error or a redirect
-/// (types 3, 4, 5, 11 and 12) none is made: the answer is then Ok, and `out` stays (RFC 1122 section
-/// 3.2.2). `NoMemory` changes nothing.
+/// none is made, as `is_error` says: the answer is then Ok, and `out` stays. `NoMemory` changes nothing.
 pub fn make_error(error: MadeError, offending: &[u8], out: &mut List<u8>) -> Result<(), NoMemory>
     requires packet { (h : Header) × (payload : List ℕ)
         × (packet_of offending.now ≡ Ok (h, payload)) × (h.options ≡ []) }
@@ -93,8 +92,10 @@ fn header_in(packet: &[u8]) -> &[u8]
     &packet[..20]
 }
 
-// whether a packet of this protocol is an ICMP error or a redirect
-fn is_error(proto: u8, payload: &[u8]) -> bool
+/// Whether a packet of this protocol with this payload is an ICMP error or a redirect (types 3, 4, 5, 11 and 12). About these no
+/// error is made (RFC 1122 section 3.2.2), so that two hosts don't answer each other's errors for ever. An empty payload is none,
+/// and a message's checksum isn't looked at.
+pub fn is_error(proto: u8, payload: &[u8]) -> bool
     ensures { result ≡ is_error proto payload.now }
 {
     match payload {

@@ -4,11 +4,11 @@ ghost use Rattle.wire_ip4.specs.Grammar.{Header};
 ghost use Rattle.wire_icmp.specs.Quoted.{Report, quoted_place};
 ghost use Rattle.icmp_xlate.specs.Translated.{SpellsError};
 
-use crate::{MadeError, error_in, error_out, make_error};
+use crate::{IcmpError, MadeError, error_in, error_out, make_error};
 use aftr_base::{Ext, Ip4, List, NoMemory};
 use std::alloc::Global;
 use std::test::Fail;
-use wire_icmp::IcmpView;
+use wire_icmp::{IcmpKind, IcmpView};
 use wire_ip4::Ip4View;
 
 // a router's Time Exceeded about a TCP segment from 192.0.2.8 port 1024 to 203.0.113.5 port 80
@@ -25,6 +25,13 @@ const ERROR_INSIDE: [u8; 56] = [
     0, 0x71, 5, 0x13, 0x88, 0, 0x50, 0, 0, 0, 1,
 ];
 
+// the same one hop on
+const ERROR_ARRIVED: [u8; 56] = [
+    0x45, 0, 0, 0x38, 0, 3, 0, 0, 0x39, 1, 0x97, 0x8b, 0xc6, 0x33, 0x64, 1, 0xc0, 0, 0, 2, 0x0b, 0,
+    0xe1, 0x26, 0, 0, 0, 0, 0x45, 0, 0, 0x28, 0, 2, 0x40, 0, 1, 6, 0x7d, 0xc6, 0xc0, 0, 0, 2, 0xcb,
+    0, 0x71, 5, 0x13, 0x88, 0, 0x50, 0, 0, 0, 1,
+];
+
 // 192.0.0.2 reports on a UDP datagram from 203.0.113.5 port 53 to its port 5000, and what 192.0.2.8 reports of port 1024
 const UDP_INSIDE: [u8; 60] = [
     0x45, 0, 0, 0x3c, 0, 9, 0, 0, 0x40, 1, 0x7e, 0xb0, 0xc0, 0, 0, 2, 0xcb, 0, 0x71, 5, 3, 3, 0xf9,
@@ -36,6 +43,20 @@ const UDP_OUT: [u8; 60] = [
     0x45, 0, 0, 0x3c, 0, 9, 0, 0, 0x40, 1, 0x7c, 0xaa, 0xc0, 0, 2, 8, 0xcb, 0, 0x71, 5, 3, 3, 0xfb,
     0x28, 0, 0, 0, 0, 0x45, 0, 0, 0x20, 0, 7, 0, 0, 0x3c, 0x11, 0x80, 0xb8, 0xcb, 0, 0x71, 5, 0xc0,
     0, 2, 8, 0, 0x35, 4, 0, 0, 0x0c, 0x38, 0xcc, 0x61, 0x62, 0x63, 0x64,
+];
+
+// the same one hop on
+const UDP_LEFT: [u8; 60] = [
+    0x45, 0, 0, 0x3c, 0, 9, 0, 0, 0x3f, 1, 0x7d, 0xaa, 0xc0, 0, 2, 8, 0xcb, 0, 0x71, 5, 3, 3, 0xfb,
+    0x28, 0, 0, 0, 0, 0x45, 0, 0, 0x20, 0, 7, 0, 0, 0x3c, 0x11, 0x80, 0xb8, 0xcb, 0, 0x71, 5, 0xc0,
+    0, 2, 8, 0, 0x35, 4, 0, 0, 0x0c, 0x38, 0xcc, 0x61, 0x62, 0x63, 0x64,
+];
+
+// and where the datagram came from 192.0.0.3 port 5353, behind 203.0.113.5 port 53
+const UDP_TURNED: [u8; 60] = [
+    0x45, 0, 0, 0x3c, 0, 9, 0, 0, 0x3f, 1, 0xf9, 0xac, 0xc0, 0, 2, 8, 0xc0, 0, 0, 3, 3, 3, 0x7f,
+    0x26, 0, 0, 0, 0, 0x45, 0, 0, 0x20, 0, 7, 0, 0, 0x3c, 0x11, 0xfc, 0xba, 0xc0, 0, 0, 3, 0xc0, 0,
+    2, 8, 0x14, 0xe9, 4, 0, 0, 0x0c, 0xa0, 0x1a, 0x61, 0x62, 0x63, 0x64,
 ];
 
 // the same of a datagram without a checksum
@@ -229,5 +250,51 @@ fn made_errors(rt: HostRuntime) -> Result<(), Fail> {
     // about an error none is made, about an echo reply one is
     let none = about(MadeError::TimeExceeded, &ERROR_IN, rt.alloc())?;
     assert!(rt; is_made(none, &[]));
+    Ok(())
+}
+
+// the error in these bytes
+fn whole(bytes: &[u8]) -> Option<IcmpError<'_>> {
+    let Ok(packet) = Ip4View::read(bytes) else {
+        return None;
+    };
+    let fields = packet.fields();
+    if packet.has_options() || fields.ttl < 2 || fields.proto != 1 {
+        return None;
+    }
+    let Ok(message) = IcmpView::read(packet.payload()) else {
+        return None;
+    };
+    match message.kind() {
+        IcmpKind::Fault => IcmpError::read(packet),
+        IcmpKind::EchoRequest | IcmpKind::EchoReply | IcmpKind::Other => None,
+    }
+}
+
+// the error in these bytes as it goes on, or nothing where there is none
+fn sent_on(bytes: &[u8], source: bool, new: Ext, alloc: Global) -> Result<Vec<u8>, NoMemory> {
+    match whole(bytes) {
+        Some(error) => error.translated(alloc, source, new),
+        None => Ok(Vec::new(alloc)),
+    }
+}
+
+// the same as it turns back
+fn turned(bytes: &[u8], src: Ext, dst: Ext, alloc: Global) -> Result<Vec<u8>, NoMemory> {
+    match whole(bytes) {
+        Some(error) => error.hairpinned(alloc, src, dst),
+        None => Ok(Vec::new(alloc)),
+    }
+}
+
+#[test]
+fn errors_one_hop_on(rt: HostRuntime) -> Result<(), Fail> {
+    let external = place(0xc000_0208, 1024);
+    let arrived = sent_on(&ERROR_IN, false, place(0xc000_0002, 5000), rt.alloc())?;
+    assert!(rt; arrived.as_slice() == ERROR_ARRIVED.as_slice());
+    let left = sent_on(&UDP_INSIDE, true, external, rt.alloc())?;
+    assert!(rt; left.as_slice() == UDP_LEFT.as_slice());
+    let back = turned(&UDP_INSIDE, external, place(0xc000_0003, 5353), rt.alloc())?;
+    assert!(rt; back.as_slice() == UDP_TURNED.as_slice());
     Ok(())
 }
