@@ -14,7 +14,7 @@ pub on_ok : {A E : Type 0} {P Q : Type 0} (r : Result A E) → (P → Q) → OnO
 on_ok (Ok x) f h = f h
 on_ok (Err e) f h = h
 
-same_read : (r : Result (Header × List ℕ) Ip4Bad) (x y : Header × List ℕ) → Ok x ≡ r → r ≡ Ok y → x ≡ y
+pub same_read : (r : Result (Header × List ℕ) Ip4Bad) (x y : Header × List ℕ) → Ok x ≡ r → r ≡ Ok y → x ≡ y
 same_read r x y p q = let same : ◌≡◌ {A = Result (Header × List ℕ) Ip4Bad} (Ok x) (Ok y) = p ∙ q in cc
 
 -- the bytes up to the total length

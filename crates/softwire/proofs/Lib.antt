@@ -3,3 +3,9 @@ pub mod Pieces
 pub mod Cuts
 pub mod PieceBytes
 pub mod Joins
+pub mod Fronts
+pub mod PieceReads
+pub mod FragmentReads
+pub mod Lengths
+pub mod CutTold
+pub mod EncapTold

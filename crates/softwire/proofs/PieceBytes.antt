@@ -11,7 +11,7 @@ pub header_long : (f : Ip6Fields) → length (header_bytes f) ≡ 40
 unfolding be16 be32 be128
 header_long f = refl
 
-behind_long : (h : FragHead) (part : List ℕ) → length (frag_bytes h ++ part) ≡ 8 + length part
+pub behind_long : (h : FragHead) (part : List ℕ) → length (frag_bytes h ++ part) ≡ 8 + length part
 unfolding be16 be32
 behind_long h part = omega arith
 

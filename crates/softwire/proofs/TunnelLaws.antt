@@ -37,9 +37,16 @@ answered aftr bytes packet f payload read fields rest ours =
     ∙ (λ i. judged ((fields i).dst.0 == aftr.0) (chain_of (fields i).next (rest i) false) (fields i).src)
     ∙ ap (after_read aftr) read
 
+-- what a packet of this end carries at the other
+pub arrives_as : (aftr softwire : Ip6) (class next : ℕ) (bytes : List ℕ) (behind : Behind)
+    → packet_of (tunnel_packet aftr softwire class next bytes) ≡ Ok (tunnel_fields aftr softwire class next (length bytes), bytes)
+    → chain_of next bytes false ≡ behind
+    → decapsulated softwire (tunnel_packet aftr softwire class next bytes) ≡ tunnel_of aftr behind
+arrives_as aftr softwire class next bytes behind read ended =
+    let ours : (softwire.0 == softwire.0) ≡ true = eq-eqb softwire.0 softwire.0 refl in
+    ap (after_read softwire) read ∙ λ i. judged (ours i) (ended i) aftr
+
 -- and it carries what was put in
 pub arrives : (aftr softwire : Ip6) (class : ℕ) (inner : List ℕ) → IsReadAs aftr softwire class inner → Arrives aftr softwire class inner
 arrives aftr softwire class inner read =
-    let ours : (softwire.0 == softwire.0) ≡ true = eq-eqb softwire.0 softwire.0 refl in
-    let ended : chain_of 4 inner false ≡ InnerPacket inner = chain_end 4 inner false refl in
-    ap (after_read softwire) read ∙ λ i. judged (ours i) (ended i) aftr
+    arrives_as aftr softwire class 4 inner (InnerPacket inner) read (chain_end 4 inner false refl)

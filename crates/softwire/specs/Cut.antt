@@ -1,5 +1,6 @@
 -- Packets that are longer than a link takes, cut (RFC 791 3.2; RFC 8200 4.5, RFC 6333 5.3).
-use Rattle.std.specs.Prelude.{◌≡◌, ◌<◌, ℕ, ◌+◌, ◌-◌, ◌*◌, ◌/◌, ◌%◌, Bool, nat_lt, min, List, [], ◌∷◌, ◌++◌, length, map, slice_range, if◌then◌else◌}
+use Rattle.std.specs.Prelude.{◌≡◌, ◌<◌, ℕ, ◌+◌, ◌-◌, ◌*◌, ◌/◌, ◌%◌, Bool, nat_lt, min, List, [], ◌∷◌, ◌++◌, length, map}
+use Rattle.std.specs.Prelude.{slice_range, if◌then◌else◌}
 use Rattle.std.specs.List.{concat, range_with_len}
 use Rattle.aftr_base.specs.declared.value.Ip6.{Ip6}
 use Rattle.wire_ip4.specs.declared.fields.Ip4Fields.{Ip4Fields}

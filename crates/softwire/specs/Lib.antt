@@ -1,2 +1,3 @@
 pub mod Tunnel
 pub mod Cut
+pub mod Reading

@@ -2,6 +2,7 @@
 ghost use Rattle.std.specs.Prelude.{◌≡◌, ◌≤◌, ◌<◌, ◌+◌, ◌*◌, ◌/◌, ◌++◌, ◌∷◌, [], List, ℕ, false, Ok, IfOk, OnErr, OnOk, length, take, drop};
 ghost use Rattle.wire_ip4.specs.Grammar.{Header, header_bytes, header_with, is_piece, packet_of};
 ghost use Rattle.softwire.specs.Cut.{JoinsAgain, cut_packet, ip4_pieces, piece_fields, piece_of, room_of};
+ghost use Rattle.softwire.specs.Reading.{CutTells};
 
 use aftr_base::{NoMemory, Packets};
 use arrayvec::ArrayVec;
@@ -21,6 +22,8 @@ pub fn cut4(datagram: &[u8], mtu: u16, out: &mut Packets) -> Result<(), NoMemory
         → packet_of datagram.now ≡ Ok (h, payload) → h.options ≡ []
         → out.new ≡ out.old ++ cut_packet mtu h payload) }
     ensures joins { (payload : List ℕ) → JoinsAgain (room_of mtu 20) payload }
+    ensures tells { (h : Header) (payload : List ℕ)
+        → packet_of datagram.now ≡ Ok (h, payload) → h.options ≡ [] → CutTells mtu h payload }
     ensures err { OnErr result (out.new ≡ out.old) }
 {
     let Ok(packet) = Ip4View::read(datagram) else {

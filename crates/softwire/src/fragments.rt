@@ -3,6 +3,7 @@
 ghost use Rattle.std.specs.Prelude.{◌≡◌, ◌≤◌, ◌<◌, ◌+◌, ◌++◌, length, IfOk, OnErr, OnOk};
 ghost use Rattle.wire_ip6.specs.Grammar.{frag_bytes};
 ghost use Rattle.softwire.specs.Cut.{JoinsAgain, encapsulated, fragments, is_cut, room_of};
+ghost use Rattle.softwire.specs.Reading.{EncapTells, FitEnds};
 ghost use Rattle.softwire.specs.Tunnel.{tunnel_packet};
 
 use crate::cut::{append, front_of, room_of};
@@ -38,17 +39,19 @@ pub fn encap_cut(
     ensures ok { OnOk result
         (out.new ≡ out.old ++ encapsulated aftr softwire class mtu id inner.now) }
     ensures joins { JoinsAgain (room_of mtu 48) inner.now }
+    ensures tells { EncapTells aftr softwire class mtu id inner.now }
     ensures err { OnErr result (out.new ≡ out.old) }
 {
-    if 40 + inner.len() <= usize::from(mtu) {
-        return encap(inner, class, aftr, softwire, mtu, id, out);
-    }
     let carrier = Carrier {
         class,
         aftr,
         softwire,
         id,
     };
+    carrier.fits();
+    if 40 + inner.len() <= usize::from(mtu) {
+        return encap(inner, class, aftr, softwire, mtu, id, out);
+    }
     let pieces = fragments_of(out.allocator(), carrier, inner, room_of(mtu, 48))?;
     append(pieces, out)?;
     Ok(true)
@@ -61,6 +64,17 @@ struct Carrier {
     aftr: Ip6,
     softwire: Ip6,
     id: u32,
+}
+
+impl Carrier {
+    // Its values have the width that the headers give them, by their types: a proof knows it once they are read.
+    fn fits(&self)
+        ensures { FitEnds self.now.aftr self.now.softwire self.now.class }
+    {
+        let _near = self.aftr.0;
+        let _far = self.softwire.0;
+        let _class = self.class;
+    }
 }
 
 // the fragments that carry so many bytes each

@@ -1,6 +1,7 @@
 use Rattle.std.proofs.Common.{◌≡◌, ◌+◌, ◌≤◌, ◌<◌, ℕ, List, length, take, ap, ◌∙◌, arith}
 use Rattle.softwire.specs.Cut.{ip4_pieces, room_of}
 use Rattle.softwire.proofs.Cuts.{on_ok, as_it_stands, in_pieces}
+use Rattle.softwire.proofs.CutTold.{told}
 use Rattle.softwire.proofs.Joins.{joins_again}
 use Rattle.softwire.proofs.cut.cut4.Goals as goal
 
@@ -39,3 +40,19 @@ returns-in_err-whole-clause-joins c payload = joins_again c.args.mtu 20 payload 
 
 pub returns-in_err-pieces-clause-joins : goal.returns-in_err-pieces-clause-joins
 returns-in_err-pieces-clause-joins c payload = joins_again c.args.mtu 20 payload (omega (arith, c.requires.mtu))
+
+pub returns-then-payload-from-clause-tells : goal.returns-then-payload-from-clause-tells
+returns-then-payload-from-clause-tells c =
+    told c.args.mtu c.args.datagram.now c.in-Ok.packet (omega (arith, c.requires.mtu)) c.in-Ok.ensures.value c.in-Ok.ensures.spelled
+
+pub returns-clause-tells : goal.returns-clause-tells
+returns-clause-tells c =
+    told c.args.mtu c.args.datagram.now c.in-Ok.packet (omega (arith, c.requires.mtu)) c.in-Ok.ensures.value c.in-Ok.ensures.spelled
+
+pub returns-in_err-whole-clause-tells : goal.returns-in_err-whole-clause-tells
+returns-in_err-whole-clause-tells c =
+    told c.args.mtu c.args.datagram.now c.in-Ok.packet (omega (arith, c.requires.mtu)) c.in-Ok.ensures.value c.in-Ok.ensures.spelled
+
+pub returns-in_err-pieces-clause-tells : goal.returns-in_err-pieces-clause-tells
+returns-in_err-pieces-clause-tells c =
+    told c.args.mtu c.args.datagram.now c.in-Ok.packet (omega (arith, c.requires.mtu)) c.in-Ok.ensures.value c.in-Ok.ensures.spelled

@@ -1,0 +1,2 @@
+-- Words that the contracts are written in.
+pub mod Ids
