@@ -1,0 +1,4 @@
+pub mod Kept
+pub mod Packets
+pub mod Steps
+pub mod Arrivals

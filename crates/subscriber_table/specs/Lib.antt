@@ -1,0 +1,2 @@
+-- The subscribers of the softwires.
+pub mod Under
