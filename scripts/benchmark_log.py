@@ -18,7 +18,8 @@ from typing import List, Tuple
 
 import log_form
 from log_form import Batch, Lease, Log, Prefix, Told
-from model import BLOCK_SIZE, FIRST_PORTS, POOL, Config
+from model import BLOCK_SIZE, FIRST_PORTS, Config
+from model_packets import POOL
 from packets import softwire_of
 
 TOP = os.path.dirname(os.path.dirname(os.path.abspath(__file__)))

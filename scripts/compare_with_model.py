@@ -1,9 +1,10 @@
 #!/usr/bin/env python3
 """Compares the built program with the plain model of model.py.
 
-First come the cases that were worked out by hand, of cases.py and refusal_cases.py, which both must meet; then random
-inputs, logs and words. The inputs are the same for the same seed. Each call of the program is one comparison: of its
-exit status, what it prints, and every file that it leaves. Without a program the cases alone are checked, on the model.
+First come the cases that were worked out by hand, of cases.py and the other files of cases, which both must meet; then
+random inputs, logs and words. The inputs are the same for the same seed. Each call of the program is one comparison: of
+its exit status, what it prints, and every file that it leaves. Without a program the cases alone are checked, on the
+model.
 The last line is 'N passed, M failed', and the exit status 0 where M is 0.
 """
 
@@ -23,6 +24,7 @@ import model
 import random_logs
 import streams
 from cases import cases
+from error_cases import errors
 from log_digits import FIRST_LOG, RICH_LOG
 from log_form import EMPTY_LOG, Damaged, Told
 from model import Files
@@ -150,11 +152,14 @@ def check_cases(comparison: Comparison) -> None:
     for case in cases():
         wanted = model.Answer(case.status, case.report(), case.after())
         comparison.check(case.name, list(case.words), case.before(), wanted)
-    for refusal in refusals():
+    for refusal in (*refusals(), *errors()):
         files: Files = {"config": b"", "log": EMPTY_LOG, "in": b"".join(refusal.records)}
         config = model.Config(is_by_address=refusal.is_by_address)
         wanted = model.Answer(0, refusal.report(), model.answer(RUN, files, config).files)
         comparison.check(refusal.name, RUN, files, wanted, config)
+        for record in refusal.shown():
+            found = [] if record in wanted.files["out"] else [f"the model doesn't send {record.hex()}"]
+            comparison.count(f"{refusal.name}, what is sent", RUN, files, found)
 
 
 def compare_run(comparison: Comparison, label: str, rng: random.Random, session: Session, traces: int) -> None:
@@ -248,7 +253,7 @@ def compare_stream(comparison: Comparison, seed: int, number: int, traces: int) 
     label = f"seed {seed}, stream {number}"
     rare = {10: streams.full_block, 30: streams.long_input, 60: streams.full_pool, 80: streams.long_input}
     usual = [streams.ordinary] * 10 + [streams.mutated] * 4 + [streams.connections] * 3 + [streams.inward] * 3
-    usual += [streams.echoes] * 3
+    usual += [streams.echoes] * 3 + [streams.errors] * 4
     compare_run(comparison, label, rng, rare.get(number % 100, rng.choice(usual))(rng), traces)
     if number % 100 == 40:
         compare_cuts(comparison, label, rng)

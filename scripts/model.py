@@ -1,9 +1,9 @@
 #!/usr/bin/env python3
 """A plain model of the program, written from its rules alone: what each command answers, and what it leaves in files.
 
-It is slow and short on purpose. Lists and dictionaries are searched, the checksums of headers are computed anew, and
-whole files are looked at; it shares no code and no order of work with the program. Called with the program's words it
-does what the program does on plain files. The log's bytes stand in log_form.py.
+It is slow and short on purpose. Lists and dictionaries are searched, checksums are computed anew, and whole files are
+looked at; it shares no code and no order of work with the program. Called with the program's words it does what the
+program does on plain files. The log's bytes stand in log_form.py, those of packets in model_packets.py.
 """
 
 from __future__ import annotations
@@ -18,12 +18,11 @@ from typing import Dict, Iterable, List, NamedTuple, Optional, Tuple
 
 import log_form
 from log_form import LAST_MOMENT, Batch, Damaged, Lease, Log, LogFull, Place, Prefix, Row, Told
+from model_packets import ACK, ECHO_REQUEST, FIN, ICMP, IPV6_HEADER, POOL, PUBLIC_MTU, RST, SOFTWIRE_MTU, SYN, TCP
+from model_packets import TIME_EXCEEDED, UDP, UNREACHABLE, Drop, encapsulated, flow_of, from_public, from_softwire
+from model_packets import is_error, made_error, moved, number, place_of, require, require_way_out, word
 
-AFTR = 0x2001_0DB8_0000_0000_0000_0000_0000_0001
-AGGREGATE = 0x2001_0DB8_0100_0000_0000_0000_0000_0000
-AGGREGATE_LENGTH = 40
 SUBSCRIBER_LENGTH = 56
-POOL = range(0xC000_0208, 0xC000_020C)  # 192.0.2.8/30
 BLOCK_SIZE = 512
 FIRST_PORTS = range(1024, 65536 - BLOCK_SIZE + 1, BLOCK_SIZE)
 IDLE = 300_000  # how long a UDP peer is kept (RFC 4787 4.3 asks for two minutes at least)
@@ -33,26 +32,21 @@ HOLD = 120_000  # how long a closed block is kept from other subscribers (RFC 68
 MAX_MAPPINGS, MAX_PEERS, MAX_BLOCKS = 4_096, 16_384, 8  # of one subscriber (RFC 6888 3, REQ-4)
 MAX_CLOSINGS = 512  # at one moment; the pool has 504 blocks, so no run comes to it
 FRAME_CLOSINGS = 1024  # in one frame of a recovery
-SOFTWIRE_MTU = PUBLIC_MTU = 1500
 LAST_INPUT_MOMENT = 4_294_963_695_999
 
 SOFTWIRE, PUBLIC, TICK, CHANGE = 1, 2, 3, 4
-HOP_BY_HOP, ICMP, IPV4_IN_IPV6, TCP, UDP, FRAGMENT, DESTINATION_OPTIONS = 0, 1, 4, 6, 17, 44, 60
-IPV6_HEADER, IPV4_HEADER, ICMP_HEADER, TCP_HEADER, UDP_HEADER, FRAGMENT_HEADER = 40, 20, 8, 20, 8, 8
-ECHO_REPLY, ECHO_REQUEST = 0, 8
-FIN, SYN, RST, ACK = 1, 2, 4, 16
-MORE_FRAGMENTS, FRAGMENT_OFFSET, DONT_FRAGMENT = 0x2000, 0x1FFF, 0x4000
 # The causes that are given today, in the order of the report.
 CAUSES = (
     "Settling BadPacket NotUs NotTunnel UnknownSubscriber Options NoRoute NoProtocol TtlSpent TooBig "
     "QuotaMappings QuotaPeers QuotaBlocks AddressFull PoolEmpty NoMapping Filtered BadChange"
 ).split()
 
+# Type, code and second word of the error that a subscriber gets for its dropped packet: Time Exceeded, Fragmentation
+# Needed with the MTU (RFC 1191 4), and Host Unreachable where there is no room (RFC 6888 3, REQ-4).
+NO_ROOM = dict.fromkeys("QuotaMappings QuotaPeers QuotaBlocks AddressFull PoolEmpty".split(), (UNREACHABLE, 1, 0))
+TOLD = {"TtlSpent": (TIME_EXCEEDED, 0, 0), "TooBig": (UNREACHABLE, 4, PUBLIC_MTU), **NO_ROOM}
+
 Files = Dict[str, bytes]
-
-
-class Drop(Exception):
-    """A packet is dropped; the argument names the cause."""
 
 
 class Config(NamedTuple):
@@ -133,178 +127,9 @@ def idle_of(protocol: int, state: str) -> int:
     return TCP_SHORT_IDLE if state in ("Opening", "Ending") else TCP_IDLE
 
 
-# ---- packets
-
-
-def word(data: bytes, at: int) -> int:
-    return int.from_bytes(data[at : at + 2], "big")
-
-
-def number(data: bytes, at: int, size: int) -> int:
-    return int.from_bytes(data[at : at + size], "big")
-
-
-def sum_of(data: bytes) -> int:
-    """The sum of the 16-bit words of an even number of bytes."""
-    return sum(struct.unpack(f">{len(data) // 2}H", data))
-
-
-def checksum(data: bytes) -> int:
-    """The Internet checksum of an even number of bytes, computed from all of them (RFC 1071)."""
-    total = sum_of(data)
-    while total > 0xFFFF:
-        total = (total & 0xFFFF) + (total >> 16)
-    return 0xFFFF - total
-
-
-def require(holds: bool, cause: str) -> None:
-    """Drops the packet for this cause unless the rule holds. The first rule that doesn't hold decides."""
-    if not holds:
-        raise Drop(cause)
-
-
-def is_routed(address: int) -> bool:
-    octet = address >> 24
-    return 1 <= octet <= 223 and octet != 127
-
-
-def is_piece(packet: bytes) -> bool:
-    return word(packet, 6) & (MORE_FRAGMENTS | FRAGMENT_OFFSET) != 0
-
-
-def ipv6_payload(data: bytes) -> bytes:
-    """The payload of the IPv6 packet at the front (RFC 8200 3). What stands behind it doesn't count."""
-    require(len(data) >= IPV6_HEADER and data[0] >> 4 == 6, "BadPacket")
-    end = IPV6_HEADER + word(data, 4)
-    require(end <= len(data), "BadPacket")
-    return data[IPV6_HEADER:end]
-
-
-def behind_options(header: int, payload: bytes) -> Tuple[int, bytes]:
-    """The first header that isn't Hop-by-Hop or Destination Options, and the bytes from it on (RFC 8200 4.3, 4.6)."""
-    while header in (HOP_BY_HOP, DESTINATION_OPTIONS):
-        require(len(payload) >= 2 and len(payload) >= 8 + 8 * payload[1], "BadPacket")
-        header, payload = payload[0], payload[8 + 8 * payload[1] :]
-    require(header != FRAGMENT or len(payload) >= FRAGMENT_HEADER, "BadPacket")
-    return header, payload
-
-
-def ipv4_packet(data: bytes) -> bytes:
-    """The IPv4 packet at the front (RFC 791 3.1), without options. What stands behind it doesn't count."""
-    require(len(data) >= IPV4_HEADER and data[0] >> 4 == 4, "BadPacket")
-    header, total = 4 * (data[0] & 0xF), word(data, 2)
-    require(IPV4_HEADER <= header <= len(data), "BadPacket")
-    require(header <= total <= len(data), "BadPacket")
-    require(checksum(data[:header]) == 0, "BadPacket")
-    require(header == IPV4_HEADER, "Options")
-    return data[:total]
-
-
-def require_transport(packet: bytes) -> None:
-    """The transport of an IPv4 packet with a hop to spare: an ICMP echo message that bears its checksum (RFC 792), a UDP
-    datagram (RFC 768) or a TCP segment (RFC 9293 3.1)."""
-    require(packet[9] in (ICMP, TCP, UDP), "NoProtocol")
-    require(packet[8] >= 2, "TtlSpent")
-    room = len(packet) - IPV4_HEADER
-    if packet[9] == ICMP:
-        require(room >= ICMP_HEADER and checksum(covered(packet)) == 0, "BadPacket")
-        require(packet[20] in (ECHO_REPLY, ECHO_REQUEST), "NoProtocol")
-    elif packet[9] == TCP:
-        require(room >= TCP_HEADER and TCP_HEADER <= 4 * (packet[32] >> 4) <= room, "BadPacket")
-    else:
-        require(room >= UDP_HEADER and UDP_HEADER <= word(packet, 24) <= room, "BadPacket")
-
-
-def from_softwire(data: bytes) -> Tuple[int, bytes]:
-    """The softwire of a subscriber's packet (RFC 6333) and the packet in it, or the first drop that applies."""
-    payload = ipv6_payload(data)
-    require(number(data, 24, 16) == AFTR, "NotUs")
-    header, payload = behind_options(data[6], payload)
-    require(header in (IPV4_IN_IPV6, FRAGMENT), "NotTunnel")
-    softwire = number(data, 8, 16)
-    require(softwire >> (128 - AGGREGATE_LENGTH) == AGGREGATE >> (128 - AGGREGATE_LENGTH), "UnknownSubscriber")
-    require(header != FRAGMENT, "NoProtocol")
-    packet = ipv4_packet(payload)
-    require(not is_piece(packet), "NoProtocol")
-    source, destination = number(packet, 12, 4), number(packet, 16, 4)
-    is_tunnel = 0xC000_0000 <= destination <= 0xC000_0007  # 192.0.0.0/29 (RFC 6333 5.7)
-    require(is_routed(source) and is_routed(destination) and not is_tunnel, "NoRoute")
-    require_transport(packet)
-    is_whole = destination in POOL or len(packet) <= PUBLIC_MTU
-    require(is_whole or word(packet, 6) & DONT_FRAGMENT == 0, "TooBig")
-    require(is_whole, "NoProtocol")
-    return softwire, packet
-
-
-def from_public(data: bytes) -> bytes:
-    """The packet of the public side to the pool, or the first drop that applies."""
-    packet = ipv4_packet(data)
-    source, destination = number(packet, 12, 4), number(packet, 16, 4)
-    require(destination in POOL, "NotUs")
-    require(not is_piece(packet), "NoProtocol")
-    require(is_routed(source) and source not in POOL, "NoRoute")
-    require_transport(packet)
-    return packet
-
-
-def covered(packet: bytes) -> bytes:
-    """What the checksum of a packet's transport covers, with a zero behind an odd end (RFC 768, RFC 9293 3.1, RFC 792)."""
-    if packet[9] == ICMP:
-        return packet[IPV4_HEADER:] + bytes(len(packet) % 2)
-    length = word(packet, 24) if packet[9] == UDP else len(packet) - IPV4_HEADER
-    transport = packet[IPV4_HEADER : IPV4_HEADER + length]
-    return packet[12:20] + struct.pack(">BBH", 0, packet[9], length) + transport + bytes(length % 2)
-
-
-def sum_place(packet: bytes) -> int:
-    """Where the checksum of a packet's transport stands."""
-    return IPV4_HEADER + {ICMP: 2, TCP: 16, UDP: 6}[packet[9]]
-
-
-def port_place(packet: bytes, is_source: bool) -> int:
-    """Where a port stands; an echo message has its identifier for a port on both sides (RFC 5508 3.1)."""
-    return IPV4_HEADER + (4 if packet[9] == ICMP else 0 if is_source else 2)
-
-
-def moved(packet: bytes, is_source: bool, place: Place, hops: int = 1) -> bytes:
-    """The packet with this place as source or destination and one hop less, or so many.
-
-    Its header's checksum is computed anew, and so is that of the transport where it was right. One that was wrong is as
-    wrong afterwards: it changes by what is added and taken away, modulo 65535 (RFC 1624). Of UDP none stays none, and a
-    sum of 0 is sent as its other form (RFC 768). Of echo messages the sum is always right; one that is all ones because
-    there are only zeros besides becomes 0, as RFC 1624 has it.
-    """
-    address_at, port_at = 12 if is_source else 16, port_place(packet, is_source)
-    out = bytearray(packet)
-    out[8] -= hops
-    out[address_at : address_at + 4] = place.address.to_bytes(4, "big")
-    out[port_at : port_at + 2] = place.port.to_bytes(2, "big")
-    out[10:12] = bytes(2)
-    out[10:12] = checksum(bytes(out[:IPV4_HEADER])).to_bytes(2, "big")
-    sum_at, is_udp = sum_place(packet), packet[9] == UDP
-    if is_udp and word(packet, sum_at) == 0:
-        return bytes(out)
-    if checksum(covered(packet)) == 0:
-        out[sum_at : sum_at + 2] = bytes(2)
-        found = checksum(covered(bytes(out))) % 0xFFFF
-    else:
-        taken, added = (
-            sum_of(data[address_at : address_at + 4]) + word(data, port_at) for data in (packet, bytes(out))
-        )
-        found = (word(packet, sum_at) + taken - added) % 0xFFFF
-    out[sum_at : sum_at + 2] = (0xFFFF if is_udp and found == 0 else found).to_bytes(2, "big")
-    return bytes(out)
-
-
 def delivered(inner: Inner, packet: bytes, hops: int) -> bytes:
     """The packet on its way to a subscriber's place, so many hops on."""
     return encapsulated(moved(packet, False, Place(inner.address, inner.port), hops), inner.softwire)
-
-
-def encapsulated(packet: bytes, softwire: int) -> bytes:
-    """The packet behind an IPv6 header to a subscriber (RFC 2473)."""
-    head = struct.pack(">IHBB", 6 << 28 | packet[1] << 20, len(packet), IPV4_IN_IPV6, 64)
-    return head + AFTR.to_bytes(16, "big") + softwire.to_bytes(16, "big") + packet
 
 
 # ---- the input
@@ -380,12 +205,23 @@ class Translator:
         if self.clock <= self.floor:
             raise Drop("Settling")
         if record.kind == SOFTWIRE:
-            self.outbound(*from_softwire(record.body))
+            self.from_subscriber(*from_softwire(record.body))
         else:
             self.inbound(from_public(record.body))
 
+    def from_subscriber(self, softwire: int, packet: bytes) -> None:
+        """A subscriber's packet goes out. Where it is dropped for some causes, its sender is told (RFC 6333 6.5)."""
+        try:
+            self.outbound(softwire, packet)
+        except Drop as drop:
+            error = made_error(*TOLD[str(drop)], packet) if str(drop) in TOLD else None
+            if error is not None:
+                self.send(SOFTWIRE, encapsulated(error, softwire))
+            raise
+
     def outbound(self, softwire: int, packet: bytes) -> None:
-        inner = Inner(softwire, number(packet, 12, 4), word(packet, port_place(packet, True)), packet[9])
+        require_way_out(packet)
+        inner = Inner(softwire, *place_of(packet, True), flow_of(packet)[9])
         mapping = self.granted(inner, packet)
         if number(packet, 16, 4) in POOL:
             self.hairpin(mapping, packet)
@@ -394,18 +230,22 @@ class Translator:
         self.send_from(mapping, PUBLIC, moved(packet, True, mapping.place))
 
     def granted(self, inner: Inner, packet: bytes) -> Mapping:
-        """The mapping that is there, where it may have the packet's remote, or a new one, which has it at once."""
+        """The mapping that is there, where it may have the packet's remote, or a new one, which has it at once. An error or an
+        echo reply makes none, and an error needs no remote."""
         owner, mapping = subscriber_of(inner.softwire), self.mappings.get(inner)
         if mapping is None:
             require(packet[9] != ICMP or packet[20] == ECHO_REQUEST, "NoMapping")
             mapping = self.mappings[inner] = Mapping(inner, owner, self.new_place(owner, packet[9]))
             self.touch(mapping, packet)
-        elif remote_of(packet, 16, 22) not in mapping.peers:
+        elif not is_error(packet) and remote_of(packet, 16, 22) not in mapping.peers:
             require(peers_of(self.rows_of(owner)) < MAX_PEERS, "QuotaPeers")
         return mapping
 
     def touch(self, mapping: Mapping, packet: bytes) -> None:
-        """A packet that goes out makes or keeps its peer; that it does so twice at a moment changes nothing."""
+        """A packet that goes out makes or keeps its peer, but for an error (RFC 5508 4); that it does so twice at a moment
+        changes nothing."""
+        if is_error(packet):
+            return
         remote = remote_of(packet, 16, 22)
         known = mapping.peers.get(remote)
         self.keep(mapping, remote, state_after(known.state if known else None, packet, True))
@@ -413,12 +253,13 @@ class Translator:
     def hairpin(self, mapping: Mapping, packet: bytes) -> None:
         """A packet to the pool goes to the mapping there, from its own external place, by one hop (RFC 4787 6, RFC 5382 7.2).
 
-        An echo message has its sender's external identifier by then, and goes to the mapping that has the same one. Where
-        a packet is refused, an old mapping keeps its peers as they were, and a new one has the peer that it was made with.
+        An echo message has its sender's external identifier by then, and goes to the mapping that has the same one; so does
+        an error that quotes one. Where a packet is refused, an old mapping keeps its peers as they were, and a new one has
+        the peer that it was made with.
         """
         from_outside = moved(packet, True, mapping.place)
         target = self.target_of(from_outside)
-        require(self.admits(target, mapping.place.address), "Filtered")
+        require(is_error(packet) or self.admits(target, mapping.place.address), "Filtered")
         require(IPV6_HEADER + len(packet) <= SOFTWIRE_MTU, "NoProtocol")
         self.touch(mapping, packet)
         self.follow(target, from_outside)
@@ -426,7 +267,7 @@ class Translator:
 
     def inbound(self, packet: bytes) -> None:
         target = self.target_of(packet)
-        require(self.admits(target, number(packet, 12, 4)), "Filtered")
+        require(is_error(packet) or self.admits(target, number(packet, 12, 4)), "Filtered")
         require(IPV6_HEADER + len(packet) <= SOFTWIRE_MTU, "NoProtocol")
         self.follow(target, packet)
         self.send(SOFTWIRE, delivered(target.inner, packet, 1))
@@ -436,8 +277,8 @@ class Translator:
         return found[0] if found else None
 
     def target_of(self, packet: bytes) -> Mapping:
-        """The mapping of the packet's protocol whose place is its destination."""
-        found = self.mapping_at(Place(number(packet, 16, 4), word(packet, port_place(packet, False))), packet[9])
+        """The mapping of the packet's protocol whose place is its destination, or of an error the source that it quotes."""
+        found = self.mapping_at(place_of(packet, False), flow_of(packet)[9])
         if found is None:
             raise Drop("NoMapping")
         return found

@@ -8,7 +8,8 @@ from typing import NamedTuple, Optional, Union
 AFTR = 0x2001_0DB8_0000_0000_0000_0000_0000_0001
 AGGREGATE = 0x2001_0DB8_0100_0000_0000_0000_0000_0000
 ICMP, TCP, UDP, IPV4_IN_IPV6 = 1, 6, 17, 4
-ECHO_REPLY, ECHO_REQUEST = 0, 8
+ECHO_REPLY, UNREACHABLE, ECHO_REQUEST, TIME_EXCEEDED = 0, 3, 8, 11
+TUNNEL = 0xC000_0001  # 192.0.0.1
 FIN, SYN, RST, ACK = 1, 2, 4, 16
 DONT_FRAGMENT, MORE_FRAGMENTS, RESERVED = 0x4000, 0x2000, 0x8000
 FROM_SOFTWIRE, FROM_PUBLIC, TICK, CHANGE = 1, 2, 3, 4
@@ -31,7 +32,7 @@ def softwire_of(subscriber: int, host: int = 2) -> int:
 def checksum(data: bytes) -> int:
     """The Internet checksum (RFC 1071)."""
     data += bytes(len(data) % 2)
-    total = sum(struct.unpack(f">{len(data) // 2}H", data))
+    total: int = sum(struct.unpack(f">{len(data) // 2}H", data))
     while total > 0xFFFF:
         total = (total & 0xFFFF) + (total >> 16)
     return 0xFFFF - total
@@ -140,7 +141,38 @@ class Echo(NamedTuple):
         return spelled_ipv4(self, self.message())
 
 
-def spelled_ipv4(packet: Union[Udp, Tcp, Echo], body: bytes) -> bytes:
+class Error(NamedTuple):
+    """An IPv4 packet with an ICMP error (RFC 792). What is None is what it should be."""
+
+    source: int = quad("198.51.100.1")
+    destination: int = quad("192.0.2.8")
+    quoted: bytes = b""  # the packet that it is about, or its beginning
+    kind: int = UNREACHABLE
+    code: int = 1
+    last_word: int = 0  # that behind the checksum
+    version: int = 4
+    words: Optional[int] = None  # the header's length in its field
+    tos: int = 0
+    total: Optional[int] = None
+    ident: int = 1
+    fragment: int = 0  # the flags and the fragment offset
+    ttl: int = 64
+    proto: int = ICMP
+    sum_wrong_by: int = 0
+    options: bytes = b""
+    message_sum: Optional[int] = None
+    kept: Optional[int] = None  # so many of its bytes are left
+
+    def message(self) -> bytes:
+        front, behind = struct.pack(">BB", self.kind, self.code), struct.pack(">I", self.last_word) + self.quoted
+        right = checksum(front + bytes(2) + behind)
+        return front + struct.pack(">H", right if self.message_sum is None else self.message_sum) + behind
+
+    def spelled(self) -> bytes:
+        return spelled_ipv4(self, self.message())
+
+
+def spelled_ipv4(packet: Union[Udp, Tcp, Echo, Error], body: bytes) -> bytes:
     """The IPv4 header of a packet, and its transport behind it."""
     words = 5 + len(packet.options) // 4 if packet.words is None else packet.words
     total = 20 + len(packet.options) + len(body) if packet.total is None else packet.total
@@ -164,10 +196,11 @@ class Softwire(NamedTuple):
     payload: Optional[int] = None
     behind: bytes = b""
     kept: Optional[int] = None
+    traffic_class: int = 0
 
     def spelled(self) -> bytes:
         body = self.chain + self.inner
         length = len(body) if self.payload is None else self.payload
-        head = struct.pack(">IHBB", self.version << 28, length, self.next_header, 64)
+        head = struct.pack(">IHBB", self.version << 28 | self.traffic_class << 20, length, self.next_header, 64)
         addresses = self.source.to_bytes(16, "big") + self.destination.to_bytes(16, "big")
         return (head + addresses + body + self.behind)[: self.kept]

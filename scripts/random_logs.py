@@ -8,14 +8,15 @@ import struct
 from typing import Callable, List, NamedTuple, Tuple
 
 import log_form
-import model
 from log_form import BLOCKS, CLOSING, HORIZON, LAST_MOMENT, OPENING, PLAN, TEMPLATES, Batch, Lease, NoMessage, Place
 from log_form import Prefix, Told
+from model import quad_text
+from model_packets import POOL
 from packets import quad, softwire_of
 
 PREFIXES = [Prefix(softwire_of(0, 0), 56), Prefix(softwire_of(1, 0), 56), Prefix(0, 0), Prefix((1 << 128) - 1, 128)]
 ODD_PREFIXES = [Prefix(1, 127), Prefix(softwire_of(0, 1), 56), Prefix(0, 129), Prefix(0, 255), Prefix(1, 0)]
-ADDRESSES = [*model.POOL, 0, quad("255.255.255.255")]
+ADDRESSES = [*POOL, 0, quad("255.255.255.255")]
 PORTS = (0, 1, 1023, 1024, 1535, 1536, 2047, 65535)
 MOMENTS = (0, 1, 1_000_000, 1_000_001, 2_000_000, LAST_MOMENT)
 PLANS = [
@@ -177,7 +178,7 @@ def damaged(rng: random.Random, log: bytes) -> bytes:
 
 def long_log(rng: random.Random) -> bytes:
     """Some thousand records in frames of many and of few, which may be damaged at one spot."""
-    lease = Lease(PREFIXES[0], model.POOL[0], 1024, 1535, 1_000_000)
+    lease = Lease(PREFIXES[0], POOL[0], 1024, 1535, 1_000_000)
     told = Told(horizon=1_000_000)
     messages = [Batch(1_000_000, horizon=1_000_000).message(0)]
     count, pairs = 1, rng.randint(1020, 1030)
@@ -197,7 +198,7 @@ def random_place(rng: random.Random, told: Told) -> Place:
         size = plan.spec.block_size
         blocks = rng.choice((1, plan.spec.ratio, 64512 // size)) * size
         rows.append(Place(plan.spec.pool[0].bits, min(65535, 1024 + rng.choice((0, blocks)))))
-    place = rng.choice(rows) if rows else Place(model.POOL[0], 1024)
+    place = rng.choice(rows) if rows else Place(POOL[0], 1024)
     return Place(place.address + rng.choice((0, 0, 0, 0, 0, 1, -1)), place.port + rng.choice((-1, 0, 0, 0, 1)))
 
 
@@ -213,4 +214,4 @@ def trace_words(rng: random.Random, told: Told) -> List[str]:
     """A query at or beside the ends of a row's ports and of its time."""
     place, moment = random_place(rng, told), max(0, min(random_moment(rng, told), LAST_MOMENT))
     address, port = place.address % (1 << 32), max(0, min(place.port, 65535))
-    return ["trace", "log", model.quad_text(address), str(port), str(moment)]
+    return ["trace", "log", quad_text(address), str(port), str(moment)]

@@ -10,7 +10,8 @@ from __future__ import annotations
 from typing import Any, Dict, Iterator, List, NamedTuple, Optional, Sequence
 
 from packets import ACK, AFTR, DONT_FRAGMENT, FIN, FROM_PUBLIC, FROM_SOFTWIRE, ICMP, MORE_FRAGMENTS, RESERVED, RST, SYN
-from packets import ECHO_REPLY, Echo, Softwire, Tcp, Udp, frame, quad, softwire_of
+from packets import ECHO_REPLY, TIME_EXCEEDED, TUNNEL, UNREACHABLE, Echo, Error, Softwire, Tcp, Udp, frame, quad
+from packets import softwire_of
 
 MOMENT = 1_000_000
 FIRST_PACKET = frame(FROM_SOFTWIRE, MOMENT, Softwire().spelled())
@@ -33,17 +34,40 @@ class Fault(NamedTuple):
 
 
 class Refusal(NamedTuple):
-    """An input, the number of its records, and the cause of the one drop among them, if there is one."""
+    """An input, the cause of the one drop among its records, if there is one, and the error that its sender gets."""
 
     name: str
     records: Sequence[bytes]
     cause: Optional[str]
+    error: Optional[bytes] = None
     is_by_address: bool = False  # by the filter; the program takes the other one, so it is the model's alone
+    moved: Optional[bytes] = None  # a record that has to be among those that are sent
 
     def report(self) -> str:
         drops = [] if self.cause is None else [f"drop {self.cause} 1"]
-        count = len(self.records)
-        return "".join(f"{line}\n" for line in [f"records {count}", f"sent {count - len(drops)}", "marks 0", *drops])
+        sent = len(self.records) - len(drops) + (self.error is not None)
+        return "".join(f"{line}\n" for line in [f"records {len(self.records)}", f"sent {sent}", "marks 0", *drops])
+
+    def shown(self) -> List[bytes]:
+        """The records that have to be among those that are sent."""
+        return [body for body in (self.error, self.moved) if body is not None]
+
+
+# Type, code and last word of the error that a subscriber gets for its packet, by the cause of the drop.
+NO_ROOM = dict.fromkeys("QuotaMappings QuotaPeers QuotaBlocks AddressFull PoolEmpty".split(), (UNREACHABLE, 1, 0))
+TOLD = {"TtlSpent": (TIME_EXCEEDED, 0, 0), "TooBig": (UNREACHABLE, 4, 1500), **NO_ROOM}
+
+
+def error_about(cause: Optional[str], inner: bytes, softwire: int) -> Optional[bytes]:
+    """The error that a subscriber's packet gets, which is none about an error: from 192.0.0.1, with the header and 8 bytes."""
+    packet = inner[: int.from_bytes(inner[2:4], "big")]
+    is_about_error = packet[9:10] == bytes([ICMP]) and packet[20:21] in (b"\3", b"\4", b"\5", b"\x0b", b"\x0c")
+    if cause not in TOLD or is_about_error:
+        return None
+    kind, code, last_word = TOLD[cause]
+    source = int.from_bytes(packet[12:16], "big")
+    error = Error(TUNNEL, source, packet[:28], kind, code, last_word, ident=0, fragment=DONT_FRAGMENT)
+    return frame(FROM_SOFTWIRE, MOMENT, Softwire(error.spelled(), AFTR, softwire).spelled())
 
 
 def long_payload(total: int) -> bytes:
@@ -144,8 +168,10 @@ def input_of(body: bytes, kind: int, is_early: bool) -> List[bytes]:
 
 
 def from_subscriber(name: str, cause: Optional[str], udp: Changes, around: Changes, is_early: bool = False) -> Refusal:
-    fields = {"inner": Udp(**udp).spelled(), **around}
-    return Refusal(f"out: {name}", input_of(Softwire(**fields).spelled(), FROM_SOFTWIRE, is_early), cause)
+    fields: Changes = {"inner": Udp(**udp).spelled(), **around}
+    packet = Softwire(**fields)
+    error = error_about(cause, packet.inner, packet.source)
+    return Refusal(f"out: {name}", input_of(packet.spelled(), FROM_SOFTWIRE, is_early), cause, error)
 
 
 def from_outside(name: str, cause: Optional[str], udp: Changes, is_early: bool = False) -> Refusal:
@@ -205,7 +231,8 @@ MESSAGES = [
     Fault("a message without its last byte", "BadPacket", {"total": 31, "payload": b"ping"}),
     Fault("a wrong sum", "BadPacket", {"message_sum": 0x1234}),
     Fault("no sum", "BadPacket", {"message_sum": 0}),
-    *[Fault(f"a message of type {kind}", "NoProtocol", {"kind": kind}) for kind in (3, 4, 5, 11, 12, 13, 15, 7, 9, 1, 255)],
+    *[Fault(f"a message of type {kind}", "NoProtocol", {"kind": kind}) for kind in (4, 5, 13, 15, 7, 9, 1, 255)],
+    *[Fault(f"an error of type {kind} about nothing", "BadPacket", {"kind": kind}) for kind in (3, 11, 12)],
 ]
 ECHO_TOO_LONG: Changes = {"fragment": DONT_FRAGMENT, "payload": bytes(MTU - 28 + 1)}
 ECHOES_FROM_SUBSCRIBERS = [
@@ -239,8 +266,9 @@ def around_echoes(body: bytes, kind: int) -> List[bytes]:
 
 
 def echo_out(name: str, cause: Optional[str], echo: Changes, around: Changes = {}) -> Refusal:
-    body = Softwire(Echo(**echo).spelled(), **around).spelled()
-    return Refusal(f"out: echo, {name}", around_echoes(body, FROM_SOFTWIRE), cause)
+    packet = Softwire(Echo(**echo).spelled(), **around)
+    error = error_about(cause, packet.inner, packet.source)
+    return Refusal(f"out: echo, {name}", around_echoes(packet.spelled(), FROM_SOFTWIRE), cause, error)
 
 
 def echo_in(name: str, cause: Optional[str], echo: Changes) -> Refusal:
@@ -388,8 +416,9 @@ def refused_grants() -> Iterator[Refusal]:
     16,384 peers at the most. Its mappings all fit into the eight blocks that it may have."""
 
     def last(name: str, before: List[bytes], cause: str, udp: Changes, subscriber: int = 0) -> Refusal:
-        body = Softwire(Udp(**udp).spelled(), source=softwire_of(subscriber)).spelled()
-        return Refusal(f"out: {name}", [*before, frame(FROM_SOFTWIRE, MOMENT, body)], cause)
+        packet = Softwire(Udp(**udp).spelled(), source=softwire_of(subscriber))
+        error = error_about(cause, packet.inner, packet.source)
+        return Refusal(f"out: {name}", [*before, frame(FROM_SOFTWIRE, MOMENT, packet.spelled())], cause, error)
 
     full_block, full_pool, all_peers = granted(1, 512), granted(504), sent_to(16_384)
     all_mappings, full_address = granted(1, 4096), granted(126) + full_block[1:]
@@ -422,8 +451,9 @@ def refused_grants() -> Iterator[Refusal]:
 
 
 def last_echo(name: str, before: List[bytes], cause: Optional[str], echo: Changes, subscriber: int = 0) -> Refusal:
-    body = Softwire(Echo(**echo).spelled(), source=softwire_of(subscriber)).spelled()
-    return Refusal(f"out: echo, {name}", [*before, frame(FROM_SOFTWIRE, MOMENT, body)], cause)
+    packet = Softwire(Echo(**echo).spelled(), source=softwire_of(subscriber))
+    error = error_about(cause, packet.inner, packet.source)
+    return Refusal(f"out: echo, {name}", [*before, frame(FROM_SOFTWIRE, MOMENT, packet.spelled())], cause, error)
 
 
 def refusals() -> Iterator[Refusal]:

@@ -1,7 +1,7 @@
 """Packets that bear their sender's number, and whom a log names for them.
 
-A subscriber's packet has the number of its prefix in its payload, which the program leaves as it is. So whose a sent
-packet was is known from the outlet alone, whatever the program or its log says.
+A subscriber's packet has the number of its prefix in its payload, an error in that of the packet that it quotes, and the
+program leaves it as it is. So whose a sent packet was is known from the outlet alone, whatever the program or its log says.
 """
 
 from __future__ import annotations
@@ -12,12 +12,14 @@ from collections import defaultdict
 from typing import Dict, List, NamedTuple, Optional, Tuple
 
 from log_form import Lease, Place, Prefix, Told
-from model import IPV4_HEADER, POOL, SUBSCRIBER_LENGTH, block_of, blocks_under, checksum, lease_line, number
-from model import prefix_text, quad_text, word
-from packets import FROM_PUBLIC, FROM_SOFTWIRE, Softwire, Udp, frame, quad, softwire_of
+from model import SUBSCRIBER_LENGTH, block_of, blocks_under, lease_line, prefix_text, quad_text
+from model_packets import ICMP, IPV4_HEADER, POOL, UDP, checksum, number, word
+from packets import ECHO_REQUEST, FROM_PUBLIC, FROM_SOFTWIRE, UNREACHABLE, Echo, Error, Softwire, Udp, frame, quad
+from packets import softwire_of
 
 PAYLOAD = struct.Struct(">II")  # the subscriber's number, and the packet's
-PACKET_LENGTH = IPV4_HEADER + 8 + PAYLOAD.size
+HEADERS = IPV4_HEADER + 8  # of a packet in front of its payload
+INNER, MTU = quad("192.0.0.2"), 1500
 FRAME_HEAD = struct.Struct(">IBQ")
 FIRST_REMOTE, REMOTES = quad("203.0.113.1"), 16
 STEPS = (0, 1, 300, 900)  # between moments; the horizon is 2,000 ahead
@@ -46,8 +48,8 @@ class Sent(NamedTuple):
 class Stream:
     """Inputs one after another. Their moments and subscribers rise all along, so new mappings never end.
 
-    At each moment a few subscribers send from a few ports. Every 20 packets another one takes the place of the first,
-    and now and then one of long ago comes back.
+    At each moment a few subscribers send from a few ports, datagrams mostly, but echo requests and errors too. Every 20
+    packets another one takes the place of the first, and now and then one of long ago comes back.
     """
 
     def __init__(self, seed: int) -> None:
@@ -68,26 +70,52 @@ class Stream:
         payload = PAYLOAD.pack(subscriber, self.count % (1 << 32))
         port, remote = 5000 + self.random.randrange(8), FIRST_REMOTE + self.random.randrange(REMOTES)
         self.count += 1
-        inner = Udp(source_port=port, destination=remote, payload=payload)
-        return Softwire(inner.spelled(), source=softwire_of(subscriber)).spelled()
+        inner, step = Udp(source_port=port, destination=remote, payload=payload).spelled(), self.random.random()
+        if step < 0.05:
+            inner = Echo(INNER, remote, port, payload=payload).spelled()
+        elif step < 0.15:  # about what came to a port, which may have no mapping
+            inner = Error(INNER, remote, Udp(remote, 53, INNER, port, payload).spelled()).spelled()
+        return Softwire(inner, source=softwire_of(subscriber)).spelled()
+
+
+def records_in(outlet: bytes) -> Tuple[List[Tuple[int, bytes]], int]:
+    """The records that stand whole in an outlet, each a moment and a packet, and how many bytes of one more stand behind
+    them."""
+    records, at = [], 0
+    while len(outlet) - at >= FRAME_HEAD.size:
+        length, kind, moment = FRAME_HEAD.unpack_from(outlet, at)
+        begin, end = at + FRAME_HEAD.size, at + 4 + length
+        if length <= 9 + IPV4_HEADER or length > 9 + MTU or kind != FROM_PUBLIC:
+            raise NoOutlet(f"the outlet has no packet of this input at {at}")
+        if end > len(outlet):
+            break
+        records.append((moment, outlet[begin:end]))
+        at = end
+    return records, len(outlet) - at
 
 
 def whole_packets(outlet: bytes) -> Tuple[List[Sent], int]:
     """The packets that stand whole in an outlet, and how many bytes of one more stand behind them."""
-    packets, at = [], 0
-    while len(outlet) - at >= FRAME_HEAD.size + PACKET_LENGTH:
-        length, kind, moment = FRAME_HEAD.unpack_from(outlet, at)
-        begin = at + FRAME_HEAD.size
-        if length != 9 + PACKET_LENGTH or kind != FROM_PUBLIC:
-            raise NoOutlet(f"the outlet has no packet of this input at {at}")
-        packets.append(sent_packet(moment, outlet[begin : begin + PACKET_LENGTH]))
-        at = begin + PACKET_LENGTH
-    return packets, len(outlet) - at
+    records, rest = records_in(outlet)
+    return [sent_packet(moment, packet) for moment, packet in records], rest
+
+
+def port_of(packet: bytes) -> Tuple[int, int]:
+    """The port that a packet shows, and where its payload begins: an echo request's identifier, or the port to which that went
+    that an error quotes (RFC 5508)."""
+    if packet[9] == ICMP and packet[20] == ECHO_REQUEST:
+        return word(packet, 24), HEADERS
+    if packet[9] == ICMP and packet[20] == UNREACHABLE and packet[28 + 16 : 28 + 20] == packet[12:16]:
+        return word(packet, 28 + 22), 28 + HEADERS
+    if packet[9] == UDP:
+        return word(packet, 20), HEADERS
+    raise NoOutlet(f"the outlet has a packet of another kind: {packet.hex()}")
 
 
 def sent_packet(moment: int, packet: bytes) -> Sent:
-    place = Place(number(packet, 12, 4), word(packet, 20))
-    subscriber, count = PAYLOAD.unpack_from(packet, PACKET_LENGTH - PAYLOAD.size)
+    port, at = port_of(packet)
+    place = Place(number(packet, 12, 4), port)
+    subscriber, count = PAYLOAD.unpack_from(packet, at)
     if packet[0] != 0x45 or checksum(packet[:IPV4_HEADER]) != 0 or place.address not in POOL:
         raise NoOutlet(f"packet {count} of the outlet isn't right")
     return Sent(place, moment, Prefix(softwire_of(subscriber, 0), SUBSCRIBER_LENGTH))

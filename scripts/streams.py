@@ -5,12 +5,14 @@ from __future__ import annotations
 import os
 import random
 import struct
-from typing import Callable, List, NamedTuple, Optional, Sequence
+from typing import Any, Callable, Dict, List, NamedTuple, Optional, Sequence
 
 import model
 from log_form import Place, Told
-from model import CHANGE, ICMP, PUBLIC, SOFTWIRE, TCP, TICK, UDP, Inner, Mapping, Remote, Translator
-from packets import ACK, FIN, RST, SYN, Echo, Softwire, Tcp, Udp, checksum, softwire_of
+from model import CHANGE, PUBLIC, SOFTWIRE, TICK, Inner, Mapping, Remote, Translator
+from model_packets import AFTR, ICMP, IPV6_HEADER, POOL, QUOTED, TCP, UDP, is_quoted_enough, moved, number, sum_place
+from model_packets import word
+from packets import ACK, DONT_FRAGMENT, FIN, RST, SYN, Echo, Error, Softwire, Tcp, Udp, checksum, softwire_of
 from refusal_cases import FROM_OUTSIDE, FROM_SUBSCRIBERS, Fault
 
 RUN = ["run", "config", "log", "out", "in"]
@@ -21,7 +23,7 @@ def quads(text: str) -> List[int]:
 
 
 SOFTWIRES = [softwire_of(0, 2), softwire_of(0, 3), softwire_of(1, 2), softwire_of(2, 2), softwire_of(65536, -1)]
-OTHER_SOFTWIRES = [softwire_of(65536, 0), softwire_of(0, -1), 0, 1, model.AFTR, (1 << 128) - 1]
+OTHER_SOFTWIRES = [softwire_of(65536, 0), softwire_of(0, -1), 0, 1, AFTR, (1 << 128) - 1]
 INNERS = quads("192.0.0.2 192.0.0.3 10.0.0.1")
 REMOTES = quads("203.0.113.5 203.0.113.6 198.51.100.1 192.0.0.8 223.255.255.255")
 # The ends of the ranges that aren't routed, of 192.0.0.0/29 (RFC 6333 5.7) and of the pool, and their neighbours.
@@ -49,7 +51,7 @@ class Edit(NamedTuple):
     adds: bool = False
 
     def apply(self, rng: random.Random, packet: bytearray) -> None:
-        old = model.number(packet, self.at, self.size) if self.adds else 0
+        old = number(packet, self.at, self.size) if self.adds else 0
         value = (old + rng.choice(self.values)) % (1 << 8 * self.size)
         packet[self.at : self.at + self.size] = value.to_bytes(self.size, "big")
 
@@ -87,6 +89,26 @@ ECHO_EDITS = [
     Edit(24, 2, (0, 1, 0x0400, 0xFFFF)),  # identifier
     Edit(26, 2, (0, 1, 0xFFFF)),  # sequence number
 ]
+ERROR_EDITS = [
+    Edit(20, 1, (0, 3, 4, 5, 8, 11, 12, 13)),  # type
+    Edit(21, 1, (0, 1, 4, 255)),  # code
+    Edit(24, 2, (0, 1, 0xFFFF)),  # the word behind the checksum
+    Edit(26, 2, (0, 1, 0x0500, 0xFFFF)),
+]
+# Of the packet that an error quotes, where it begins at 0.
+QUOTED_EDITS = [
+    Edit(0, 1, (0x45, 0x44, 0x46, 0x4F, 0x55, 0x65)),  # version and header length
+    Edit(2, 2, (0, 28, 0xFFFF)),  # total length
+    Edit(6, 2, (0x2000, 0x4000, 0x8000, 0x0001, 0x1FFF)),  # flags and fragment offset
+    Edit(8, 1, (0, 1, 255)),  # TTL
+    Edit(9, 1, (0, 1, 6, 17, 47)),  # protocol
+    Edit(10, 2, (0, 1, 0xFFFF)),  # checksum
+    *[Edit(12, 4, EDGE_ADDRESSES), Edit(16, 4, EDGE_ADDRESSES)],
+    Edit(20, 2, (0, 1, 1024, 5000, 0xFFFF)),  # source port, or an echo message's type and code
+    Edit(22, 2, (0, 1, 1024, 5000, 0xFFFF)),  # destination port, or an echo message's checksum
+    Edit(24, 2, (0, 1, 1024, 0xFFFF)),  # an echo message's identifier
+    Edit(26, 2, (0, 0, 1, 0xFFFE, 0xFFFF)),  # checksum of UDP
+]
 FLAGS = [SYN, SYN | ACK, ACK, ACK, ACK | 8, FIN, FIN | ACK, FIN | SYN, RST, RST | ACK, RST | FIN | SYN, 0]
 IPV6_EDITS = [
     Edit(0, 1, (0x00, 0x45, 0x50, 0x70, 0xF0)),  # version
@@ -96,7 +118,7 @@ IPV6_EDITS = [
     Edit(6, 1, (0, 6, 17, 41, 43, 44, 50, 58, 59, 60)),  # next header
     Edit(7, 1, (0, 1, 255)),  # hop limit
     Edit(8, 16, OTHER_SOFTWIRES),
-    Edit(24, 16, (model.AFTR + 1, model.AFTR - 1, 0, SOFTWIRES[0], model.AFTR ^ 1 << 127)),
+    Edit(24, 16, (AFTR + 1, AFTR - 1, 0, SOFTWIRES[0], AFTR ^ 1 << 127)),
 ]
 # Headers between IPv6 and IPv4: options with an encapsulation limit (RFC 2473 4.1.1), hop-by-hop options, both, long
 # ones, fragments, a Routing header, and headers that run past the packet.
@@ -143,16 +165,26 @@ def with_echo_sum_to_zero(packet: bytearray, change: Callable[[bytes], bytes]) -
     return with_message_sum(packet)
 
 
+def with_quoted_sum_to_zero(rng: random.Random, packet: bytearray, change: Callable[[bytes], bytes]) -> bytearray:
+    """The error with a sum in what it quotes that is zero once it is changed like this: IPv4's or the transport's."""
+    transport = QUOTED + sum_place(bytes(packet[QUOTED:]))
+    at = rng.choice([QUOTED + 10, transport] if transport + 2 <= len(packet) else [QUOTED + 10])
+    packet[at : at + 2] = b"\0\1"
+    from_one = word(change(bytes(with_message_sum(packet))), at)
+    packet[at : at + 2] = struct.pack(">H", (1 - from_one) % 0xFFFF or 0xFFFF)
+    return with_message_sum(packet)
+
+
 def with_sums_to_zero(rng: random.Random, packet: bytearray, change: Callable[[bytes], bytes]) -> bytearray:
     """The packet with a sum that is zero once it is changed like this, the transport's or IPv4's; or zero before."""
     if rng.random() < 0.6:
-        at = model.sum_place(packet)
+        at = sum_place(packet)
         packet[at : at + 2] = b"\0\1"
-        from_one = model.word(change(packet), at)
+        from_one = word(change(packet), at)
         packet[at : at + 2] = struct.pack(">H", (1 - from_one) % 0xFFFF or 0xFFFF)
         return packet
     at_zero = packet if rng.random() < 0.5 else with_sum(bytearray(change(packet)))
-    packet[4:6] = struct.pack(">H", (model.word(packet, 4) + model.word(at_zero, 10)) % 0xFFFF)
+    packet[4:6] = struct.pack(">H", (word(packet, 4) + word(at_zero, 10)) % 0xFFFF)
     with_sum(packet)
     if packet[10:12] == bytes(2) and rng.random() < 0.5:
         packet[10:12] = b"\xff\xff"  # the other zero of one's complement
@@ -161,7 +193,7 @@ def with_sums_to_zero(rng: random.Random, packet: bytearray, change: Callable[[b
 
 def change_in(mapping: Mapping) -> Callable[[bytes], bytes]:
     """What becomes of a packet from outside to the mapping."""
-    return lambda packet: model.moved(packet, False, Place(mapping.inner.address, mapping.inner.port))
+    return lambda packet: moved(packet, False, Place(mapping.inner.address, mapping.inner.port))
 
 
 class Session:
@@ -236,22 +268,22 @@ class Session:
         if live and step < 0.9:
             place = self.rng.choice(live).place
             return Remote(place.address, (place.port + (1 if step < 0.35 else 0)) % 65536)
-        return Remote(self.rng.choice(model.POOL), self.rng.choice(EDGE_PORTS))
+        return Remote(self.rng.choice(POOL), self.rng.choice(EDGE_PORTS))
 
     def change_out(self, mapping: Mapping, remote: Remote) -> Callable[[bytes], bytes]:
         """What becomes of a packet of the mapping on its way to this remote, or on the first half of one into the pool."""
         target = self.state.mapping_at(Place(*remote), mapping.inner.protocol)
 
         def change(packet: bytes) -> bytes:
-            out = model.moved(packet, True, mapping.place)
-            return out if target is None else model.delivered(target.inner, out, 0)[model.IPV6_HEADER :]
+            out = moved(packet, True, mapping.place)
+            return out if target is None else model.delivered(target.inner, out, 0)[IPV6_HEADER :]
 
-        return change if self.rng.random() < 0.5 else lambda packet: model.moved(packet, True, mapping.place)
+        return change if self.rng.random() < 0.5 else lambda packet: moved(packet, True, mapping.place)
 
     def outbound(self) -> None:
         """A packet of a subscriber, which may be edited at every layer, or break a rule or more."""
         rng = self.rng
-        protocol = rng.choice((UDP, UDP, UDP, TCP, TCP, ICMP))
+        protocol = rng.choice((UDP, UDP, UDP, UDP, TCP, TCP, ICMP))
         inner = Inner(rng.choice(self.softwires), rng.choice(INNERS), rng.choice(self.ports), protocol)
         remote, around = self.remote(inner), Softwire(source=inner.softwire)
         if protocol == TCP and rng.random() < 0.8:
@@ -260,8 +292,13 @@ class Session:
         if protocol == ICMP:
             self.echo_out(inner, remote.address)
             return
+        mapping = self.state.mappings.get(inner)
+        if mapping is not None and rng.random() < 0.2:
+            self.error_out(mapping)
+            return
         payload = self.payload((1431, 1432, 1433, 1471, 1472, 1473))
         udp = Udp(inner.address, inner.port, *remote, payload, ident=rng.randrange(65536))
+        udp = udp._replace(fragment=rng.choice((0, 0, DONT_FRAGMENT)), ttl=rng.choice((64,) * 12 + (2, 1, 0)))
         inner = inner._replace(protocol=UDP)
         if rng.random() < 0.2:
             for fault in self.faults(FROM_SUBSCRIBERS):
@@ -270,7 +307,7 @@ class Session:
             return
         packet = bytearray(udp.spelled())
         mapping = self.state.mappings.get(inner)
-        if mapping is not None and rng.random() < 0.2:
+        if mapping is not None and udp.ttl > 1 and rng.random() < 0.2:
             packet = with_sums_to_zero(rng, packet, self.change_out(mapping, remote))
         elif rng.random() < 0.15:
             packet = edited(rng, packet)
@@ -328,7 +365,7 @@ class Session:
         """Its packet, which may be edited, or have a sum that is zero once it is changed."""
         rng, packet = self.rng, bytearray(echo.spelled())
         step = rng.random()
-        if step < 0.15 and change is not None and echo.ttl > 1:
+        if step < 0.15 and change is not None and echo.ttl > 1 and echo.kind in (0, 8):
             return bytes(with_echo_sum_to_zero(packet, change))
         if step < 0.3:
             packet = edited(rng, packet)
@@ -349,23 +386,88 @@ class Session:
         echo = self.echo(remote.address, *mapping.place, 0.3, (1431, 1432, 1433))
         self.add(PUBLIC, self.changed_echo(echo, change_in(mapping)))
 
+    def quoted(self, protocol: int, source: Place, destination: Place) -> bytes:
+        """A packet from one place to another as an error quotes it: its beginning, or all of it. It may be edited."""
+        rng, payload = self.rng, self.rng.randbytes(self.rng.choice((0, 1, 4, 12, 40)))
+        front: Dict[str, Any] = {"ident": rng.randrange(65536), "tos": rng.choice((0, 0xB8)), "ttl": rng.choice((0, 1, 1, 60))}
+        if protocol == TCP:
+            packet = Tcp(*source, *destination, payload, rng.choice(FLAGS))._replace(**front).spelled()
+        elif protocol == UDP:
+            packet = Udp(*source, *destination, payload)._replace(**front).spelled()
+        else:
+            kind = rng.choice((0, 8, 8, 13))
+            ends = (source.address, destination.address, source.port)
+            packet = Echo(*ends, rng.choice((0, 1, 0xFFFF)), payload, kind)._replace(**front).spelled()
+        if rng.random() < 0.2:
+            out = bytearray(packet)
+            for _ in range(rng.choice((1, 1, 2))):
+                rng.choice(QUOTED_EDITS).apply(rng, out)
+            packet = bytes(out)
+        return packet[: rng.choice((28, 28, 28, 36, 37, 38, 39, 48, 1500, rng.randrange(29)))]
+
+    def changed_error(self, error: Error, change: Callable[[bytes], bytes]) -> bytes:
+        """Its packet, which may be edited, or have a sum that is zero once it is changed."""
+        rng, packet = self.rng, bytearray(error.spelled())
+        step = rng.random()
+        if step < 0.2 and is_quoted_enough(error.quoted) and error.ttl > 1:
+            return bytes(with_quoted_sum_to_zero(rng, packet, change))
+        if step < 0.3 and is_quoted_enough(error.quoted) and error.ttl > 1:
+            return bytes(with_echo_sum_to_zero(packet, change))
+        if step < 0.45:
+            rng.choice(rng.choice((IPV4_EDITS, ERROR_EDITS, ERROR_EDITS))).apply(rng, packet)
+            with_sum(packet)
+            return bytes(with_message_sum(packet) if rng.random() < 0.8 else packet)
+        return bytes(packet + rng.randbytes(rng.choice((0, 0, 0, 0, 1, 7))))
+
+    def error(self, source: int, destination: int, quoted: bytes) -> Error:
+        rng = self.rng
+        if rng.random() < 0.04:  # about as long as a softwire or the public side takes
+            quoted = (quoted + bytes(1500))[: rng.choice((1432, 1433, 1472, 1473))]
+        kind, code, last_word = rng.choice((3, 3, 3, 11, 12)), rng.choice((0, 1, 3, 4, 255)), rng.choice((0, 0x0578))
+        error = Error(source, destination, quoted, kind, code, last_word, ident=rng.randrange(65536))
+        fragment, tos = rng.choice((0, 0, DONT_FRAGMENT)), rng.choice((0, 0, 0xC0))
+        return error._replace(fragment=fragment, tos=tos, ttl=rng.choice((64,) * 12 + (2, 2, 1)))
+
+    def error_in(self, mapping: Mapping) -> None:
+        """An error from anywhere outside about a packet that left from a live place."""
+        rng, remote = self.rng, self.rng.choice(list(mapping.peers))
+        source, other = rng.choice([*REMOTES, remote.address]), rng.choice([mapping.place.address] * 7 + [*POOL])
+        quoted = self.quoted(mapping.inner.protocol, mapping.place, Place(remote.address, remote.port or 53))
+        self.add(PUBLIC, self.changed_error(self.error(source, other, quoted), change_in(mapping)))
+
+    def error_out(self, mapping: Mapping) -> None:
+        """A subscriber's error about a packet that came to a live place of it, from outside or from another subscriber."""
+        rng, inner = self.rng, mapping.inner
+        remote, destination = rng.choice(list(mapping.peers)), rng.choice(REMOTES)
+        if rng.random() < max(0.3, self.inward):
+            remote = self.remote_inside(inner)
+            destination = rng.choice([remote.address] * 7 + [*POOL])
+        port = inner.port if inner.protocol == ICMP else remote.port or 53
+        quoted = self.quoted(inner.protocol, Place(remote.address, port), Place(inner.address, inner.port))
+        change = self.change_out(mapping, Remote(remote.address, mapping.place.port if inner.protocol == ICMP else port))
+        error = self.error(rng.choice([inner.address] * 3 + INNERS), destination, quoted)
+        self.add(SOFTWIRE, Softwire(self.changed_error(error, change), inner.softwire).spelled())
+
     def reply(self) -> None:
         """A packet to the pool: to a live place, to one that was live, or beside; it may break a rule or more."""
         rng = self.rng
         live = list(self.state.mappings.values())
         mapping = rng.choice(live) if live and rng.random() < 0.75 else None
+        if mapping is not None and rng.random() < 0.15:
+            self.error_in(mapping)
+            return
         if mapping is not None and mapping.inner.protocol == TCP and rng.random() < 0.9:
             self.segment_in(mapping)
             return
         if mapping is not None and mapping.inner.protocol == ICMP and rng.random() < 0.9:
             self.echo_in(mapping)
             return
-        beside = Place(rng.choice(model.POOL), rng.choice(EDGE_PORTS))
+        beside = Place(rng.choice(POOL), rng.choice(EDGE_PORTS))
         if rng.random() < 0.1:
             echo = self.echo(rng.choice(REMOTES), *(mapping.place if mapping else beside), 0.3, (1431, 1432, 1433))
             self.add(PUBLIC, self.changed_echo(echo, None))
             return
-        remote = rng.choice(list(model.POOL) if rng.random() < 0.04 else REMOTES + INNERS)
+        remote = rng.choice(list(POOL) if rng.random() < 0.04 else REMOTES + INNERS)
         place = mapping.place if mapping else beside
         payload = self.payload((1431, 1432, 1433, 1472))
         udp = Udp(remote, 53, place.address, place.port, payload, ident=rng.randrange(65536))
@@ -454,7 +556,7 @@ def full_block(rng: random.Random) -> Session:
 def full_pool(rng: random.Random) -> Session:
     """More subscribers than the pool has blocks. All 504 can close at one moment, which is under the bound of 512."""
     session = Session(rng)
-    count = len(model.POOL) * len(model.FIRST_PORTS)
+    count = len(POOL) * len(model.FIRST_PORTS)
     subscribers = rng.sample(range(65536), count + 40)
     for subscriber in subscribers[: count + 3]:
         session.plain(softwire_of(subscriber, 2), 5000, session.start)
@@ -508,12 +610,34 @@ def echoes(rng: random.Random) -> Session:
         step = rng.random()
         if step < 0.55 or not live:
             inner = Inner(rng.choice(session.softwires), INNERS[0], rng.choice((0, 7, 8, 1024, 65535)), ICMP)
-            address = rng.choice(model.POOL[:2]) if step < 0.3 else rng.choice(REMOTES)
+            address = rng.choice(POOL[:2]) if step < 0.3 else rng.choice(REMOTES)
             session.echo_out(inner, address)
         elif step < 0.9:
             session.echo_in(rng.choice(live))
         else:
             (session.outbound if step < 0.95 else session.other)()
+    return session
+
+
+def errors(rng: random.Random) -> Session:
+    """Errors both ways and between subscribers, about packets of all kinds, among these packets."""
+    session = Session(rng)
+    session.inward = rng.choice((0.1, 0.7))
+    if rng.random() < 0.3:
+        for subscriber in range(128):
+            session.plain(softwire_of(subscriber, 2), 5000, session.start)
+        session.softwires = [softwire_of(subscriber, 2) for subscriber in (0, 1, 126, 127)]
+    for _ in range(rng.randint(20, 120)):
+        live = [row for row in session.state.mappings.values() if row.inner.softwire in session.softwires]
+        step = rng.random()
+        if step < 0.35 or not live:
+            session.outbound()
+        elif step < 0.65:
+            session.error_out(rng.choice(live))
+        elif step < 0.9:
+            session.error_in(rng.choice(live))
+        else:
+            (session.reply if step < 0.95 else session.other)()
     return session
 
 

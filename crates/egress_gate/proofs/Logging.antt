@@ -70,6 +70,8 @@ few_opened : (s : State) (e : Event) → HasFew 0 (treatment s e.kind e.bytes).o
 few_opened s e = by_way (λ (t : Step). HasFew 0 t.openings) s e.bytes e.kind (record {
   rests = few_none;
   drops = λ cause. few_none;
+  answers = λ got cause e is. few_none;
+  relays = λ i is. few_none;
   delivers = λ d row by. few_none;
   forwards = λ got g by abroad. few_blocks true s.clock (option_to_list g.lease);
   turns = λ got g row by back. few_blocks true s.clock (option_to_list g.lease);

@@ -12,12 +12,12 @@ const NOTHING_SENT: &[&str] = &[];
 
 const ONE_SENT: &str = "records 1\nsent 1\nmarks 0\n";
 
-// What a run with a configuration leaves of the first packet: the report, the outlet and the log.
+/// What a run with a configuration leaves.
 #[derive(Drop)]
-struct Ending<'a> {
-    report: &'a str,
-    sent: &'a [&'a str],
-    log: LogFile<'a>,
+pub struct Ending<'a> {
+    pub report: &'a str,
+    pub sent: &'a [&'a str],
+    pub log: LogFile<'a>,
 }
 
 // Blocks of 16 ports, and peers that are kept for two minutes.
@@ -53,9 +53,14 @@ pub fn defaults<R: Abort + AllocGlobal>(rt: &R) -> Config {
     Config::defaults(rt.alloc()).expect(rt, "memory for a configuration")
 }
 
-// Runs over the first packet, and compares what is left.
-fn check_run<R: Abort + AllocGlobal>(rt: &R, config: Config, ending: &Ending<'_>) {
-    let left = run_with(rt, config, &FIRST);
+/// Runs as above, and compares what is left.
+pub fn check_run<R: Abort + AllocGlobal>(
+    rt: &R,
+    config: Config,
+    input: &[&str],
+    ending: &Ending<'_>,
+) {
+    let left = run_with(rt, config, input);
     compare(rt, &left, ending);
 }
 
@@ -73,7 +78,7 @@ fn the_default_configuration(rt: HostRuntime) {
         sent: &[FIRST_SENT],
         log: LogFile::Frames(&[FIRST_FRAME]),
     };
-    check_run(&rt, config, &ending);
+    check_run(&rt, config, &FIRST, &ending);
 }
 
 #[test]
@@ -86,7 +91,7 @@ fn blocks_of_sixteen_ports(rt: HostRuntime) {
             blocks: &["00000000000f4240 10 20010db8010000000000000000000000 38 c0000208 0400 040f"],
         }]),
     };
-    check_run(&rt, small_blocks(&rt), &ending);
+    check_run(&rt, small_blocks(&rt), &FIRST, &ending);
 }
 
 // The log has 17 bytes, and the first packet's frame needs 147 more.
@@ -103,7 +108,7 @@ fn a_log_without_room(rt: HostRuntime) {
         sent: NOTHING_SENT,
         log: LogFile::Frames(&[]),
     };
-    check_run(&rt, limited_to(&rt, 163), &ending);
+    check_run(&rt, limited_to(&rt, 163), &FIRST, &ending);
 }
 
 #[test]
@@ -113,5 +118,5 @@ fn a_log_with_just_enough_room(rt: HostRuntime) {
         sent: &[FIRST_SENT],
         log: LogFile::Frames(&[FIRST_FRAME]),
     };
-    check_run(&rt, limited_to(&rt, 164), &ending);
+    check_run(&rt, limited_to(&rt, 164), &FIRST, &ending);
 }

@@ -120,8 +120,8 @@ static REFUSED: [Case<'static>; 5] = [
         ..NO_PROTOCOL
     },
     Case {
-        name: "an error, of type 3",
-        input: &[HEAD, TUNNEL, INNER, "03 00 1e27 0007 0001 70696e67"],
+        name: "a redirect, of type 5",
+        input: &[HEAD, TUNNEL, INNER, "05 00 1c27 0007 0001 70696e67"],
         ..NO_PROTOCOL
     },
 ];

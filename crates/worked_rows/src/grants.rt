@@ -1,6 +1,8 @@
-//! Which places packets leave from under small quotas and blocks, and which are refused, also by a filter.
+//! Which places packets leave from under small quotas and blocks, which are refused, also by a filter, and what senders
+//! are told then.
 
 use crate::configs::{Left, defaults, run_with};
+use crate::octets::octets;
 use aftr_base::{Ip4, Prefix4};
 use cfg_text::{Config, Filter};
 use plant_mem::MemPlant;
@@ -12,6 +14,20 @@ const SENT: usize = 45;
 const SOURCE: usize = 25;
 
 const PORT: usize = 33;
+
+// The bytes of a frame with an error to a sender, and where the packet stands in it.
+const TOLD: usize = 109;
+
+const PACKET: usize = 13;
+
+// What comes of a packet.
+#[derive(Clone, Copy)]
+enum Fate {
+    // It leaves from this port of 192.0.2.(0 + the number).
+    From(u8, u16),
+    // Host Unreachable about this port goes to the subscriber whose prefix has this number.
+    Told(u16, u16),
+}
 
 // A run of packets without UDP checksums.
 #[derive(Drop)]
@@ -82,28 +98,61 @@ fn run_packets<R: Abort + AllocGlobal>(
     plant
 }
 
-// The same, where the places that packets left from are compared: address and port.
-fn check_places<R: Abort + AllocGlobal>(
+// The same, where what came of the packets is compared.
+fn check_fates<R: Abort + AllocGlobal>(
     rt: &R,
     config: Config,
     packets: &Packets,
     report: &str,
-    places: &[(u8, u16)],
+    fates: &[Fate],
 ) {
     let plant = run_packets(rt, config, packets, report);
-    compare_places(rt, plant.sent(), places);
+    compare_fates(rt, plant.sent(), fates);
 }
 
-fn compare_places<R: Abort>(rt: &R, sent: &[u8], places: &[(u8, u16)]) {
+fn compare_fates<R: Abort + AllocGlobal>(rt: &R, sent: &[u8], fates: &[Fate]) {
     let mut rest = sent;
-    for (addr, port) in places {
-        assert!(rt; rest.len() >= SENT, "a further packet");
-        let (packet, after) = rest.split_at(SENT);
-        assert_eq!(rt; packet[SOURCE + 3], *addr);
-        assert_eq!(rt; u16::from_be_bytes([packet[PORT], packet[PORT + 1]]), *port);
-        rest = after;
+    for fate in fates {
+        rest = match fate {
+            Fate::From(addr, port) => behind_packet(rt, rest, *addr, *port),
+            Fate::Told(subscriber, port) => behind_error(rt, rest, *subscriber, *port),
+        };
     }
     assert!(rt; rest.is_empty(), "no further packet");
+}
+
+// What stands behind a packet from this place.
+fn behind_packet<'a, R: Abort>(rt: &R, sent: &'a [u8], addr: u8, port: u16) -> &'a [u8] {
+    assert!(rt; sent.len() >= SENT, "a further packet");
+    let (packet, after) = sent.split_at(SENT);
+    assert_eq!(rt; packet[SOURCE + 3], addr);
+    assert_eq!(rt; u16::from_be_bytes([packet[PORT], packet[PORT + 1]]), port);
+    after
+}
+
+// What stands behind an error about a packet to 203.0.113.5.
+fn behind_error<'a, R: Abort + AllocGlobal>(
+    rt: &R,
+    sent: &'a [u8],
+    subscriber: u16,
+    port: u16,
+) -> &'a [u8] {
+    assert!(rt; sent.len() >= TOLD, "a further error");
+    let (error, after) = sent.split_at(TOLD);
+    let checksum = 0xfcbd_u16.wrapping_sub(port);
+    let packet = format!(in rt.alloc();
+        "60000000 0038 04 40
+        20010db8000000000000000000000001 20010db801{subscriber:04x}000000000000000002
+        4500 0038 0000 4000 40 01 bac1 c0000001 c0000002 03 01 {checksum:04x} 00000000
+        4500 0020 0001 0000 40 11 7ec4 c0000002 cb007105 {port:04x} 0035 000c 0000"
+    );
+    let packet = packet.expect(rt, "memory for an error");
+    assert_eq!(rt; &error[PACKET..], octets(rt, &[packet.as_str()]).as_slice());
+    after
+}
+
+fn add_fate<R: Abort>(rt: &R, fates: &mut Vec<Fate>, fate: Fate) {
+    fates.push(fate).expect(rt, "memory for a fate");
 }
 
 // The addresses from 192.0.2.8 on, as many as a prefix of this length has.
@@ -126,12 +175,12 @@ fn a_full_block_and_a_further_one(rt: HostRuntime) {
     for port in 5000..5017 {
         packets.add(&rt, 1_000_000, 0, port, 0);
     }
-    let mut places = Vec::new(rt.alloc());
+    let mut fates = Vec::new(rt.alloc());
     for port in 1024..1041 {
-        places.push((8, port)).expect(&rt, "memory for a place");
+        add_fate(&rt, &mut fates, Fate::From(8, port));
     }
     let report = "records 17\nsent 17\nmarks 0\n";
-    check_places(&rt, config, &packets, report, &places);
+    check_fates(&rt, config, &packets, report, &fates);
 }
 
 #[test]
@@ -145,13 +194,14 @@ fn one_block_at_the_most(rt: HostRuntime) {
     }
     // The last mapping that there is still leaves.
     packets.add(&rt, 1_000_000, 0, 5015, 0);
-    let mut places = Vec::new(rt.alloc());
+    let mut fates = Vec::new(rt.alloc());
     for port in 1024..1040 {
-        places.push((8, port)).expect(&rt, "memory for a place");
+        add_fate(&rt, &mut fates, Fate::From(8, port));
     }
-    places.push((8, 1039)).expect(&rt, "memory for a place");
-    let report = "records 18\nsent 17\nmarks 0\ndrop QuotaBlocks 1\n";
-    check_places(&rt, config, &packets, report, &places);
+    add_fate(&rt, &mut fates, Fate::Told(0, 5016));
+    add_fate(&rt, &mut fates, Fate::From(8, 1039));
+    let report = "records 18\nsent 18\nmarks 0\ndrop QuotaBlocks 1\n";
+    check_fates(&rt, config, &packets, report, &fates);
 }
 
 #[test]
@@ -162,14 +212,14 @@ fn two_mappings_at_the_most(rt: HostRuntime) {
     for port in [5000, 5001, 5002, 5000] {
         packets.add(&rt, 1_000_000, 0, port, 0);
     }
-    let report = "records 4\nsent 3\nmarks 0\ndrop QuotaMappings 1\n";
-    check_places(
-        &rt,
-        config,
-        &packets,
-        report,
-        &[(8, 1024), (8, 1025), (8, 1024)],
-    );
+    let report = "records 4\nsent 4\nmarks 0\ndrop QuotaMappings 1\n";
+    let fates = [
+        Fate::From(8, 1024),
+        Fate::From(8, 1025),
+        Fate::Told(0, 5002),
+        Fate::From(8, 1024),
+    ];
+    check_fates(&rt, config, &packets, report, &fates);
 }
 
 #[test]
@@ -177,44 +227,42 @@ fn two_peers_at_the_most(rt: HostRuntime) {
     let mut config = defaults(&rt);
     config.max_peers = 2;
     let mut packets = Packets::new(&rt);
-    for remote in [0, 1, 2, 1] {
+    for remote in [1, 2, 0, 1] {
         packets.add(&rt, 1_000_000, 0, 5000, remote);
     }
     // A new mapping would have a peer as well.
     packets.add(&rt, 1_000_000, 0, 5001, 0);
-    let report = "records 5\nsent 3\nmarks 0\ndrop QuotaPeers 2\n";
-    check_places(
-        &rt,
-        config,
-        &packets,
-        report,
-        &[(8, 1024), (8, 1024), (8, 1024)],
-    );
+    let report = "records 5\nsent 5\nmarks 0\ndrop QuotaPeers 2\n";
+    let fates = [
+        Fate::From(8, 1024),
+        Fate::From(8, 1024),
+        Fate::Told(0, 5000),
+        Fate::From(8, 1024),
+        Fate::Told(0, 5001),
+    ];
+    check_fates(&rt, config, &packets, report, &fates);
 }
 
 // Each of an address's 126 blocks has a subscriber, of whom the first fills its own.
 #[test]
 fn an_address_without_a_free_block(rt: HostRuntime) {
     let mut packets = Packets::new(&rt);
-    let mut places = Vec::new(rt.alloc());
+    let mut fates = Vec::new(rt.alloc());
     for block in 0..126 {
         packets.add(&rt, 1_000_000, block, 5000, 0);
-        places
-            .push((8, 1024 + 512 * block))
-            .expect(&rt, "memory for a place");
+        add_fate(&rt, &mut fates, Fate::From(8, 1024 + 512 * block));
     }
     for port in 1..512 {
         packets.add(&rt, 1_000_000, 0, 5000 + port, 0);
-        places
-            .push((8, 1024 + port))
-            .expect(&rt, "memory for a place");
+        add_fate(&rt, &mut fates, Fate::From(8, 1024 + port));
     }
     packets.add(&rt, 1_000_000, 0, 5512, 0);
+    add_fate(&rt, &mut fates, Fate::Told(0, 5512));
     // Another one has a block on the next address.
     packets.add(&rt, 1_000_000, 126, 5000, 0);
-    places.push((9, 1024)).expect(&rt, "memory for a place");
-    let report = "records 639\nsent 638\nmarks 0\ndrop AddressFull 1\n";
-    check_places(&rt, pool(&rt, 31), &packets, report, &places);
+    add_fate(&rt, &mut fates, Fate::From(9, 1024));
+    let report = "records 639\nsent 639\nmarks 0\ndrop AddressFull 1\n";
+    check_fates(&rt, pool(&rt, 31), &packets, report, &fates);
 }
 
 // The three blocks of 192.0.2.8 have a subscriber each, of whom the first fills its own: no block of 192.0.2.9 is for it.
@@ -225,26 +273,23 @@ fn a_full_block_on_a_full_address(rt: HostRuntime) {
     config.max_mappings = 20_000;
     config.max_peers = 20_000;
     let mut packets = Packets::new(&rt);
-    let mut places = Vec::new(rt.alloc());
+    let mut fates = Vec::new(rt.alloc());
     for block in 0..3 {
         packets.add(&rt, 1_000_000, block, 5000, 0);
-        places
-            .push((8, 1024 + 16384 * block))
-            .expect(&rt, "memory for a place");
+        add_fate(&rt, &mut fates, Fate::From(8, 1024 + 16384 * block));
     }
     for port in 1..16384 {
         packets.add(&rt, 1_000_000, 0, 5000 + port, 0);
-        places
-            .push((8, 1024 + port))
-            .expect(&rt, "memory for a place");
+        add_fate(&rt, &mut fates, Fate::From(8, 1024 + port));
     }
     packets.add(&rt, 1_000_000, 0, 21384, 0);
+    add_fate(&rt, &mut fates, Fate::Told(0, 21384));
     // The last mapping that there is still leaves.
     packets.add(&rt, 1_000_000, 0, 21383, 0);
-    places.push((8, 17407)).expect(&rt, "memory for a place");
-    let report = "records 16388\nsent 16387\nmarks 0\ndrop AddressFull 1\n";
+    add_fate(&rt, &mut fates, Fate::From(8, 17407));
+    let report = "records 16388\nsent 16388\nmarks 0\ndrop AddressFull 1\n";
     let plant = run_packets(&rt, config, &packets, report);
-    compare_places(&rt, plant.sent(), &places);
+    compare_fates(&rt, plant.sent(), &fates);
     let leases = crate::driver::ask(&rt, &["leases", "log"], plant.content());
     assert_eq!(rt; str::from_utf8(leases.written()), Ok(THREE_LEASES));
 }
@@ -269,27 +314,34 @@ fn three_blocks<R: Abort + AllocGlobal>(rt: &R) -> (Config, Packets) {
     (config, packets)
 }
 
-const THREE: [(u8, u16); 5] = [(8, 1024), (8, 17408), (8, 33792), (8, 17408), (8, 33792)];
+const THREE: [Fate; 5] = [
+    Fate::From(8, 1024),
+    Fate::From(8, 17408),
+    Fate::From(8, 33792),
+    Fate::From(8, 17408),
+    Fate::From(8, 33792),
+];
 
 #[test]
 fn a_closed_block_is_held_from_others(rt: HostRuntime) {
     let (config, mut packets) = three_blocks(&rt);
     packets.add(&rt, 1_419_999, 3, 5000, 0);
     packets.add(&rt, 1_420_000, 3, 5000, 0);
-    let mut places = THREE.to_vec(rt.alloc()).expect(&rt, "memory for places");
-    places.push((8, 1024)).expect(&rt, "memory for a place");
-    let report = "records 8\nsent 6\nmarks 0\ndrop PoolEmpty 1\n";
-    check_places(&rt, config, &packets, report, &places);
+    let mut fates = THREE.to_vec(rt.alloc()).expect(&rt, "memory for fates");
+    add_fate(&rt, &mut fates, Fate::Told(3, 5000));
+    add_fate(&rt, &mut fates, Fate::From(8, 1024));
+    let report = "records 8\nsent 7\nmarks 0\ndrop PoolEmpty 1\n";
+    check_fates(&rt, config, &packets, report, &fates);
 }
 
 #[test]
 fn its_last_holder_has_it_back(rt: HostRuntime) {
     let (config, mut packets) = three_blocks(&rt);
     packets.add(&rt, 1_300_001, 0, 5000, 0);
-    let mut places = THREE.to_vec(rt.alloc()).expect(&rt, "memory for places");
-    places.push((8, 1024)).expect(&rt, "memory for a place");
+    let mut fates = THREE.to_vec(rt.alloc()).expect(&rt, "memory for fates");
+    add_fate(&rt, &mut fates, Fate::From(8, 1024));
     let report = "records 7\nsent 6\nmarks 0\n";
-    check_places(&rt, config, &packets, report, &places);
+    check_fates(&rt, config, &packets, report, &fates);
 }
 
 #[test]

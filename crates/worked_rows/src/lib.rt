@@ -17,6 +17,8 @@ mod driver;
 #[cfg(test)]
 mod echoes;
 #[cfg(test)]
+mod errors;
+#[cfg(test)]
 mod expiry;
 #[cfg(test)]
 mod faults;
@@ -28,6 +30,8 @@ mod grants;
 mod hairpins;
 #[cfg(test)]
 mod logs;
+#[cfg(test)]
+mod made_errors;
 #[cfg(test)]
 mod making;
 #[cfg(test)]

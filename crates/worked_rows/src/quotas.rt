@@ -115,9 +115,15 @@ static PORTS: Case<'static> = Case {
     ..RUN
 };
 
+// Host Unreachable about a packet from port 5000 of the subscriber whose prefix has the number 504.
+const TOO_MANY_TOLD: &str = "00000069 01 00000000000f4240 60000000 0038 04 40
+    20010db8000000000000000000000001 20010db80101f8000000000000000002
+    4500 0038 0000 4000 40 01 bac1 c0000001 c0000002 03 01 e935 00000000
+    4500 0020 0001 0000 40 11 7ec4 c0000002 cb007105 1388 0035 000c 0000";
+
 static BLOCKS: Case<'static> = Case {
     name: "one subscriber too many",
-    report: "records 505\nsent 504\nmarks 0\ndrop PoolEmpty 1\n",
+    report: "records 505\nsent 505\nmarks 0\ndrop PoolEmpty 1\n",
     drops: &[(DropCause::PoolEmpty, 1)],
     ..RUN
 };
@@ -148,5 +154,6 @@ fn the_pool_has_504_blocks(rt: HostRuntime) {
         add_blocks(&rt, &mut many, addr);
     }
     many.add_packet(&rt, 504, 5000);
+    add(&rt, &mut many.sent, TOO_MANY_TOLD);
     check_many(&rt, &BLOCKS, many);
 }

@@ -3,6 +3,7 @@
 use crate::case::{Case, RUN};
 use crate::driver::{check, check_all};
 use crate::logs::LogFile;
+use crate::made_errors::TIME_EXCEEDED;
 use crate::packets::{DATAGRAM, FIRST_FRAME, FIRST_SENT, HEAD, INNER, PACKET, TUNNEL};
 use aftr_base::DropCause;
 use std::process::Abort;
@@ -48,12 +49,6 @@ const NO_ROUTE: Case<'static> = Case {
 const NO_PROTOCOL: Case<'static> = Case {
     report: "records 1\nsent 0\nmarks 0\ndrop NoProtocol 1\n",
     drops: &[(DropCause::NoProtocol, 1)],
-    ..RUN
-};
-
-const TTL_SPENT: Case<'static> = Case {
-    report: "records 1\nsent 0\nmarks 0\ndrop TtlSpent 1\n",
-    drops: &[(DropCause::TtlSpent, 1)],
     ..RUN
 };
 
@@ -123,7 +118,7 @@ static TUNNELS: [Row; 8] = [
     ),
 ];
 
-static INNERS: [Row; 13] = [
+static INNERS: [Row; 11] = [
     (
         "version 6",
         "6500 0020 0001 0000 40 11 5ec4 c0000002 cb007105",
@@ -148,16 +143,6 @@ static INNERS: [Row; 13] = [
         "a last fragment",
         "4500 0020 0001 0001 40 11 7ec3 c0000002 cb007105",
         NO_PROTOCOL,
-    ),
-    (
-        "a TTL of 0",
-        "4500 0020 0001 0000 00 11 bec4 c0000002 cb007105",
-        TTL_SPENT,
-    ),
-    (
-        "a TTL of 1",
-        "4500 0020 0001 0000 01 11 bdc4 c0000002 cb007105",
-        TTL_SPENT,
     ),
     (
         "TCP without a whole header",
@@ -258,7 +243,8 @@ static RUNS: [Case<'static>; 2] = [
             "4500 0020 0001 0000 40 2f 7ea6 c0000002 cb007105",
             "0000 0000 0000 0000 00000000",
         ],
-        report: "records 7\nsent 0\nmarks 0\ndrop BadPacket 1\ndrop NotUs 1\ndrop NotTunnel 1\ndrop UnknownSubscriber 1\ndrop NoRoute 1\ndrop NoProtocol 1\ndrop TtlSpent 1\n",
+        report: "records 7\nsent 1\nmarks 0\ndrop BadPacket 1\ndrop NotUs 1\ndrop NotTunnel 1\ndrop UnknownSubscriber 1\ndrop NoRoute 1\ndrop NoProtocol 1\ndrop TtlSpent 1\n",
+        sent: &[TIME_EXCEEDED],
         drops: &[
             (DropCause::BadPacket, 1),
             (DropCause::NotUs, 1),

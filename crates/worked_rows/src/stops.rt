@@ -2,10 +2,13 @@
 //!
 //! A run is stopped after each number of calls on the log and the outlet. From each of the files that the stop may leave, a
 //! run over no record starts again, and of two runs is stopped in the same way, until one ends. Each log that is left has to name the
-//! sender of each packet that stood whole in the outlet at the first stop: that one, and nobody else.
+//! sender of each packet that stood whole in the outlet at the first stop: that one, and nobody else. A packet that shows no place of
+//! a subscriber isn't asked for.
 
 use crate::driver::ask;
+use crate::errors::{BETWEEN, ECHO_BACK, ECHO_OUT, REQUEST, UDP_IN, UDP_OUT};
 use crate::logs::LogFile;
+use crate::made_errors::SPENT_LATER;
 use crate::octets::{list_of, octets};
 use crate::packets::{ELSEWHERE, HEAD, NEXT_HEAD, OTHER, PACKET};
 use aftr_base::Status;
@@ -37,8 +40,8 @@ const FREE: &str = "00000051 01 000000000015aae0";
 struct StoppedRun<'a> {
     name: &'a str,
     input: &'a [&'a str],
-    /// What a query says of each packet that goes out, in order.
-    named: &'a [&'a str],
+    /// What a query says of each packet that goes out, in order, where it shows a subscriber's place.
+    named: &'a [Option<&'a str>],
     /// Whether the runs that start again are stopped too.
     twice: bool,
 }
@@ -53,26 +56,49 @@ static RUNS: [StoppedRun<'static>; 5] = [
     StoppedRun {
         name: "one packet",
         input: &[HEAD, PACKET],
-        named: &[FIRST_NAMED],
+        named: &[Some(FIRST_NAMED)],
         twice: false,
     },
     StoppedRun {
         name: "two remote hosts by one mapping",
         input: &[HEAD, PACKET, LATER, ELSEWHERE],
-        named: &[FIRST_NAMED, FIRST_NAMED],
+        named: &[Some(FIRST_NAMED), Some(FIRST_NAMED)],
         twice: true,
     },
     StoppedRun {
         name: "packets of two subscribers",
         input: &[HEAD, PACKET, NEXT_HEAD, OTHER],
-        named: &[FIRST_NAMED, OTHER_NAMED],
+        named: &[Some(FIRST_NAMED), Some(OTHER_NAMED)],
         twice: false,
     },
     StoppedRun {
         name: "one block of two subscribers, the second at the hold's end",
         input: &[HEAD, PACKET, TICK, FREE, OTHER],
-        named: &[FIRST_NAMED, OTHER_NAMED],
+        named: &[Some(FIRST_NAMED), Some(OTHER_NAMED)],
         twice: true,
+    },
+];
+
+// An error shows its sender's place in the packet that it quotes. One that a remote host made shows no subscriber's, nor does
+// one that is about an echo message between subscribers, nor one that the program made.
+static ERRORS: [StoppedRun<'static>; 3] = [
+    StoppedRun {
+        name: "errors from the public side and to it",
+        input: &[HEAD, PACKET, UDP_IN, UDP_OUT],
+        named: &[Some(FIRST_NAMED), None, Some(FIRST_NAMED)],
+        twice: false,
+    },
+    StoppedRun {
+        name: "an error between subscribers",
+        input: &[HEAD, PACKET, NEXT_HEAD, OTHER, BETWEEN],
+        named: &[Some(FIRST_NAMED), Some(OTHER_NAMED), Some(OTHER_NAMED)],
+        twice: false,
+    },
+    StoppedRun {
+        name: "errors about echo messages, and one that is made",
+        input: &[REQUEST, ECHO_OUT, ECHO_BACK, SPENT_LATER],
+        named: &[Some(FIRST_NAMED), Some(FIRST_NAMED), None, None],
+        twice: false,
     },
 ];
 
@@ -156,21 +182,25 @@ fn check_left<R: Abort + AllocGlobal>(
         let Some((record, behind)) = next_record(rest) else {
             return;
         };
-        check_named(rt, name, record, named, plant.content());
+        if let Some(named) = named {
+            check_named(rt, name, record, named, plant.content());
+        }
         rest = behind;
     }
 }
 
 // Asks a log who sent a packet.
 fn check_named<R: Abort + AllocGlobal>(rt: &R, name: &str, record: &[u8], named: &str, log: &[u8]) {
-    assert!(rt; record.len() > 30, "a record of a packet: {name}");
+    assert!(rt; record.len() > 8, "a record: {name}");
     let moment = u64::from_be_bytes([
         record[1], record[2], record[3], record[4], record[5], record[6], record[7], record[8],
     ]);
-    let port = u16::from_be_bytes([record[29], record[30]]);
+    let packet = inner_of(record).expect(rt, "a packet");
+    assert!(rt; packet.len() > 15, "a source: {name}");
+    let port = number_at(packet, port_offset(packet)).expect(rt, "a port");
     let addr = format!(in rt.alloc();
         "{}.{}.{}.{}",
-        record[21], record[22], record[23], record[24]
+        packet[12], packet[13], packet[14], packet[15]
     );
     let addr = addr.expect(rt, "memory for an address");
     let port = format!(in rt.alloc(); "{port}").expect(rt, "memory for a port");
@@ -184,6 +214,42 @@ fn check_named<R: Abort + AllocGlobal>(rt: &R, name: &str, record: &[u8], named:
     ];
     let report = ask(rt, &words, log);
     assert_eq!(rt; str::from_utf8(report.written()), Ok(named), "{name}");
+}
+
+// The IPv4 packet of a record, behind the kind and the moment, and in a softwire behind the IPv6 header.
+fn inner_of(record: &[u8]) -> Option<&[u8]> {
+    match record.first() {
+        Some(1) => bytes_from(record, 49),
+        _ => bytes_from(record, 9),
+    }
+}
+
+// Where the port of a packet's source stands. Of an error that is the destination's of the packet that it quotes, and of an
+// echo message the identifier (RFC 792).
+fn port_offset(packet: &[u8]) -> usize {
+    let is_icmp = matches!(packet.get(9), Some(1));
+    let is_error = matches!(packet.get(20), Some(3 | 11 | 12));
+    let is_about_icmp = matches!(packet.get(37), Some(1));
+    match (is_icmp, is_error, is_about_icmp) {
+        (false, _, _) => 20,
+        (true, false, _) => 24,
+        (true, true, false) => 50,
+        (true, true, true) => 52,
+    }
+}
+
+fn number_at(bytes: &[u8], at: usize) -> Option<u16> {
+    match bytes_from(bytes, at) {
+        Some([high, low, ..]) => Some(u16::from_be_bytes([*high, *low])),
+        _ => None,
+    }
+}
+
+fn bytes_from(bytes: &[u8], at: usize) -> Option<&[u8]> {
+    if bytes.len() < at {
+        return None;
+    }
+    Some(&bytes[at..])
 }
 
 // The first record of these bytes without its length, and what stands behind it, where it stands there whole.
@@ -215,6 +281,13 @@ fn count_whole(bytes: &[u8]) -> usize {
 #[test]
 fn a_run_that_starts_again_names_each_sender(rt: HostRuntime) {
     for run in &RUNS {
+        check_stops(&rt, run);
+    }
+}
+
+#[test]
+fn it_names_each_sender_of_an_error(rt: HostRuntime) {
+    for run in &ERRORS {
         check_stops(&rt, run);
     }
 }

@@ -100,6 +100,8 @@ disjoint_treated : (s : State) (bytes : List ℕ) (kind : EventKind) → is_acce
 disjoint_treated s bytes kind ok h = by_way (λ (t : Step). AreDisjoint t.state.leases) s bytes kind (record {
   rests = h;
   drops = λ cause. h;
+  answers = λ got cause e is. h;
+  relays = λ i is. h;
   delivers = λ d r by. h;
   forwards = λ got g by abroad. disjoint_grant (grant_out ok by) h;
   turns = λ got g row by turned. disjoint_grant (grant_out ok by) h;

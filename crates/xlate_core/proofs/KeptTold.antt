@@ -100,11 +100,13 @@ first_opened {told = told} {end = end} more later h = record {
 first_treated : {told : List LeaseRow} (s : State) (bytes : List ℕ) (kind : EventKind) → is_accepted s.config ≡ true
     → StandFirst told s.floor s.leases → StandFirst told s.floor (treatment s kind bytes).state.leases
 first_treated {told = told} s bytes kind ok h =
-    let more : (got : Outbound) (g : Grant) → IsOut s bytes got g → StandFirst told s.floor (s.leases ++ option_to_list g.lease) =
+    let more : (got : Outbound) (g : Grant) → IsOut s got g → StandFirst told s.floor (s.leases ++ option_to_list g.lease) =
     λ got g by. first_opened (option_to_list g.lease) (new_later s.floor s.clock g.lease by.settled (grant_new (grant_out ok by))) h in
     by_way (λ (t : Step). StandFirst told s.floor t.state.leases) s bytes kind (record {
       rests = h;
       drops = λ cause. h;
+      answers = λ got cause e is. h;
+      relays = λ i is. h;
       delivers = λ d r by. h;
       forwards = λ got g by abroad. more got g by;
       turns = λ got g row by turned. more got g by;

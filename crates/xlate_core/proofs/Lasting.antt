@@ -157,6 +157,8 @@ module _ (key : InnerKey) (ext : Ext) (remote : Peer) where
   stays_treated s bytes kind u = by_way (λ (t : Step). Used t.state.rows) s bytes kind (record {
     rests = u;
     drops = λ cause. u;
+    answers = λ got cause e is. u;
+    relays = λ i is. u;
     delivers = λ d row by. stays_inbound s (arrival_of d) u;
     forwards = λ got g by abroad. stays_granted s (flow_of got) g u;
     turns = λ got g row by back.
@@ -268,6 +270,8 @@ leaves_treated : (s : State) (bytes : List ℕ) (kind : EventKind) → LeavesAll
 leaves_treated s bytes kind = by_way (LeavesAll s) s bytes kind (record {
   rests = tt;
   drops = λ cause refused. refl;
+  answers = λ got cause e is refused. refl;
+  relays = λ i is. tt;
   delivers = λ d row by. tt;
   forwards = λ got g by abroad. tt;
   turns = λ got g row by back. tt;

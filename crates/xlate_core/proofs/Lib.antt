@@ -32,5 +32,6 @@ pub mod ValidGrants
 pub mod ValidRows
 pub mod ValidStates
 pub mod WholeDatagrams
+pub mod WholeErrors
 pub mod WirePlaces
 pub mod Zips

@@ -39,6 +39,8 @@ pub opens_treated : (s : State) (bytes : List ℕ) (kind : EventKind) → is_acc
 opens_treated s bytes kind ok = by_way (Opens s) s bytes kind (record {
   rests = opens_none s _ refl refl refl;
   drops = λ cause. opens_none s _ refl refl refl;
+  answers = λ got cause e is. opens_none s _ refl refl refl;
+  relays = λ i is. opens_none s _ refl refl refl;
   delivers = λ d row by. record {
     config = refl;
     clock = refl;

@@ -1,7 +1,8 @@
 -- Each packet that goes out has its source in an open lease of its subscriber, which all later leases name, and no other.
 use Rattle.std.proofs.Common.{◌≡◌, ℕ, ◌^◌, ◌<◌, ◌≤◌, ◌==◌, Bool, true, false, not, ap, List, [], ◌∷◌, ◌++◌, length, Option, Some, None, IfSome, All, option_to_list, refl, sym, ◌∙◌, subst, arith, ap₂}
 use Rattle.std.proofs.lemmas.List.Elements.{All-weaker, All-nil, All-cons, All-append}
-use Rattle.std.specs.Prelude.{if◌then◌else◌}
+use Rattle.std.specs.Prelude.{◌&&◌, ◌||◌, if◌then◌else◌}
+use Rattle.std.proofs.lemmas.Bool.{eq-eqb}
 use Rattle.aftr_base.specs.Bytes.{u8_at}
 use Rattle.aftr_base.specs.Value.{ip4, place}
 use Rattle.aftr_base.specs.declared.value.Ext.{Ext}
@@ -13,26 +14,34 @@ use Rattle.aftr_base.specs.declared.event.EventKind.{EventKind}
 use Rattle.aftr_base.specs.declared.told.Told.{Told}
 use Rattle.cfg_text.specs.declared.config.Config.{Config}
 use Rattle.xlate_core.specs.declared.grant.Grant.{Grant}
+use Rattle.xlate_core.specs.declared.grant.Sender.{Sender}
 use Rattle.xlate_core.specs.declared.step_out.Item.{Item}
-use Rattle.xlate_core.specs.State.{State, Step}
+use Rattle.xlate_core.specs.State.{State, Step, item}
 use Rattle.softwire.specs.Tunnel.{tunnel_fields}
+use Rattle.icmp_xlate.specs.Errors.{ErrorPacket, error_bytes, forwarded_error, turned_error}
+use Rattle.icmp_xlate.proofs.ErrorLengths.{IsError}
+use Rattle.icmp_xlate.proofs.ErrorPlaces.{ShowsIdentifier, ShowsPlace, error_kinds, identifier_out, shows_back, shows_out}
 use Rattle.nat_mapping.specs.Rows.{Mapping}
-use Rattle.xlate_core.specs.Sources.{sender_of, source_of}
+use Rattle.xlate_core.specs.Packet.{is_fault}
+use Rattle.xlate_core.specs.Sources.{inner_at, is_query_at, sender_of, shows_by, source_of}
 use Rattle.xlate_core.specs.Datagram.{datagram_bytes, hairpinned, inner_place, translated}
 use Rattle.xlate_core.specs.Outbound.{Outbound}
 use Rattle.xlate_core.specs.Expiry.{at_moment}
-use Rattle.xlate_core.specs.Step.{step, treatment, sent_out, sent_back, held_back, item, delivered_bytes, hairpin_bytes}
+use Rattle.xlate_core.specs.Errors.{answer_bytes, error_item, error_key, error_out}
+use Rattle.xlate_core.specs.Step.{step, treatment, sent_out, sent_back, held_back, delivered_bytes, hairpin_bytes}
 use Rattle.xlate_core.specs.Run.{run, start}
 use Rattle.xlate_core.specs.Valid.{AreDisjoint, IsConsistent, IsStart}
 use Rattle.xlate_core.proofs.Disjoint.{disjoint_run}
 use Rattle.xlate_core.proofs.Holders.{IsHeld, holders, held_later, held_now, sole_holder}
 use Rattle.xlate_core.proofs.LeasesOver.{AreLater, later_run}
 use Rattle.xlate_core.proofs.Reached.{IsReached, reached_moment, reached_start, reached_step}
-use Rattle.xlate_core.proofs.ValidForwards.{place_granted}
+use Rattle.xlate_core.proofs.ValidForwards.{place_granted, row_lies}
 use Rattle.xlate_core.proofs.ValidStates.{grant_out}
-use Rattle.xlate_core.proofs.WirePlaces.{address_back, address_out, behind_address, behind_port, behind_proto, place_fits, port_back, port_out, proto_back, wire_grant}
+use Rattle.xlate_core.proofs.WirePlaces.{address_back, address_out, behind_address, behind_port, behind_query, no_query_back, place_fits}
+use Rattle.xlate_core.proofs.WirePlaces.{port_back, port_by, port_in, port_out, wire_grant}
 use Rattle.xlate_core.proofs.Packets.{sent_outward}
 use Rattle.xlate_core.proofs.Treatments.{IsOut, by_way}
+use Rattle.xlate_core.proofs.WholeErrors.{GoesIn, GoesOut, IsRelayed, IsSentError, TurnsBack}
 use Rattle.xlate_core.proofs.ValidRows.{lies_at}
 
 -- ---- a packet's source
@@ -42,7 +51,7 @@ abbrev pub IsFromLease : List LeaseRow → Item → Type 0
 IsFromLease leases i = IfSome (sender_of i) (λ (owner : Subscriber). lies_at leases owner (source_of i) ≡ true)
 
 -- the place of a grant is in an open lease of the sender then, and fits into the headers
-placed : {s : State} {bytes : List ℕ} {got : Outbound} {g : Grant} → IsReached s → IsOut s bytes got g
+placed : {s : State} {got : Outbound} {g : Grant} → IsReached s → IsOut s got g
     → (let after = s.leases ++ option_to_list g.lease in
     (lies_at after got.who.owner g.place ≡ true) × (g.place.addr.0 < 2 ^ 32) × (g.place.port < 2 ^ 16))
 placed {s = s} {got = got} {g = g} h by =
@@ -51,7 +60,7 @@ placed {s = s} {got = got} {g = g} h by =
     let fits = place_fits (s.leases ++ option_to_list g.lease) got.who.owner g.place (wire_grant grant h.wire) there in
     (there, fits.0, fits.1)
 
-source_out : {s : State} {bytes : List ℕ} {got : Outbound} {g : Grant} → IsReached s → IsOut s bytes got g
+source_out : {s : State} {got : Outbound} {g : Grant} → IsReached s → IsOut s got g
     → lies_at (s.leases ++ option_to_list g.lease) got.who.owner
     (source_of (item s PublicSide (Some got.who.owner) (datagram_bytes (translated true g.place got.datagram)))) ≡ true
 source_out {s = s} {got = got} {g = g} h by =
@@ -62,17 +71,23 @@ source_out {s = s} {got = got} {g = g} h by =
     ap₂ (λ (a p : ℕ). lies_at after got.who.owner (place (ip4 a) p)) addr port ∙ there
 
 -- one of nobody's has none
-nobody : (P : Subscriber → Type 0) (query : Bool) → IfSome (if not query then None else None) P
+nobody : (P : Subscriber → Type 0) (shows : Bool) → IfSome (if shows then None else None) P
 nobody P true = tt
 nobody P false = tt
 
--- a packet between subscribers shows it, unless it is an echo message
+nobodys : (leases : List LeaseRow) (i : Item) → i.owner ≡ None → IsFromLease leases i
+nobodys leases i none =
+    let shows = shows_by i.side (is_query_at (inner_at i.side) i.bytes) in
+    let P = λ (owner : Subscriber). lies_at leases owner (source_of i) ≡ true in
+    subst (λ (o : Option Subscriber). IfSome (if shows then o else None) P) (sym none) (nobody P shows)
+
+-- a packet between subscribers shows it, unless that is an identifier
 shown_by : (P : Subscriber → Type 0) (owner : Subscriber) (query : Bool) → (query ≡ false → P owner)
     → IfSome (if not query then Some owner else None) P
 shown_by P owner true h = tt
 shown_by P owner false h = h refl
 
-source_back : {s : State} {bytes : List ℕ} {got : Outbound} {g : Grant} (row : Mapping) → IsReached s → IsOut s bytes got g
+source_back : {s : State} {got : Outbound} {g : Grant} (row : Mapping) → IsReached s → IsOut s got g
     → IsFromLease (s.leases ++ option_to_list g.lease) (item s SoftwireSide (Some got.who.owner) (hairpin_bytes s got g row))
 source_back {s = s} {got = got} {g = g} row h by =
     let after = s.leases ++ option_to_list g.lease in
@@ -82,13 +97,81 @@ source_back {s = s} {got = got} {g = g} row h by =
     let f = tunnel_fields s.config.aftr row.key.softwire d.header.fields.tos 4 (length inner) in
     let sent = item s SoftwireSide (Some got.who.owner) (hairpin_bytes s got g row) in
     let (there, low, high) = placed h by in
-    let proto = behind_proto f inner ∙ proto_back g.place place_in d in
     shown_by (λ (owner : Subscriber). lies_at after owner (source_of sent) ≡ true) got.who.owner
-    (u8_at 49 (hairpin_bytes s got g row) == 1) (λ other.
-    let ports = ap (λ (n : ℕ). n == 1) (sym proto) ∙ other in
+    (is_query_at 40 (hairpin_bytes s got g row)) (λ none.
+    let whole = (sent_outward by).whole in
+    let ports = no_query_back g.place place_in d whole (sym (behind_query f inner) ∙ none) in
     let addr = behind_address f inner ∙ address_back g.place place_in d low in
-    let port = behind_port f inner ∙ port_back g.place place_in d (sent_outward by).whole ports high in
+    let port = behind_port f inner ∙ port_back g.place place_in d whole ports high in
     ap₂ (λ (a p : ℕ). lies_at after got.who.owner (place (ip4 a) p)) addr port ∙ there)
+
+-- ---- an error that is passed on
+
+-- its place is that of the mapping of what it quotes, which fits into the headers
+error_placed : {s : State} {who : Sender} {row : Mapping} {e : ErrorPacket} → IsReached s → IsSentError s who row e
+    → (lies_at s.leases who.owner row.ext ≡ true) × (row.ext.addr.0 < 2 ^ 32) × (row.ext.port < 2 ^ 16)
+error_placed {s = s} {who = who} {row = row} {e = e} h is =
+    let there = row_lies s (error_key who.softwire e) who.owner row is.owns is.finds h.consistent in
+    let fits = place_fits s.leases who.owner row.ext h.wire there in
+    (there, fits.0, fits.1)
+
+-- it is about no echo message, where its place isn't an identifier
+ports_by : (icmp fault about : Bool) → icmp ≡ true → fault ≡ true → (icmp && (not fault || about)) ≡ false → about ≡ false
+ports_by true true false e f h = refl
+ports_by true true true e f h = cc
+ports_by true false about e f h = cc
+ports_by false fault about e f h = cc
+
+ports_quoted : {new : Ext} (e : ErrorPacket) (bytes : List ℕ) → IsError e → ShowsPlace e new bytes → is_query_at 0 bytes ≡ false
+    → (u8_at 37 bytes == 1) ≡ false
+ports_quoted e bytes is shows none =
+    ports_by (u8_at 9 bytes == 1) (is_fault (u8_at 20 bytes)) (u8_at 37 bytes == 1) (eq-eqb (u8_at 9 bytes) 1 shows.proto)
+    (ap is_fault shows.kind ∙ error_kinds e.report.kind is.kind) none
+
+-- an error's place, whatever it is about
+shown_port : (new : Ext) (e : ErrorPacket) (bytes : List ℕ) (about : Bool) → IsError e → ShowsPlace e new bytes
+    → (u8_at 37 bytes == 1) ≡ about → (about ≡ true → ShowsIdentifier new bytes) → port_in bytes ≡ new.port
+shown_port new e bytes true is shows known id =
+    port_by bytes true true true (eq-eqb (u8_at 9 bytes) 1 shows.proto) (ap is_fault shows.kind ∙ error_kinds e.report.kind is.kind) known
+    ∙ id refl known
+shown_port new e bytes false is shows known id =
+    port_by bytes true true false (eq-eqb (u8_at 9 bytes) 1 shows.proto) (ap is_fault shows.kind ∙ error_kinds e.report.kind is.kind) known
+    ∙ shows.port known
+
+source_error_out : {s : State} {who : Sender} {row : Mapping} {e : ErrorPacket} → IsReached s → IsSentError s who row e
+    → IsFromLease s.leases (error_out s who row e)
+source_error_out {s = s} {who = who} {row = row} {e = e} h is =
+    let (there, low, high) = error_placed h is in
+    let bytes = error_bytes (forwarded_error true row.ext e) in
+    let shows = shows_out row.ext e is.sends.is low high in
+    let port = shown_port row.ext e bytes (u8_at 37 bytes == 1) is.sends.is shows refl (λ about. identifier_out row.ext e is.sends.is low high) in
+    ap₂ (λ (a p : ℕ). lies_at s.leases who.owner (place (ip4 a) p)) shows.address port ∙ there
+
+-- between subscribers, where that isn't an identifier
+source_error_back : {s : State} {who : Sender} {row : Mapping} {e : ErrorPacket} (to : Mapping) → IsReached s → IsSentError s who row e
+    → IsFromLease s.leases (error_item s (Some who.owner) to (turned_error row.ext (inner_place to.key) e))
+source_error_back {s = s} {who = who} {row = row} {e = e} to h is =
+    let (there, low, high) = error_placed h is in
+    let inner = error_bytes (turned_error row.ext (inner_place to.key) e) in
+    let f = tunnel_fields s.config.aftr to.key.softwire e.header.fields.tos 4 (length inner) in
+    let sent = error_item s (Some who.owner) to (turned_error row.ext (inner_place to.key) e) in
+    let shows = shows_back row.ext e is.sends.is low high (inner_place to.key) in
+    shown_by (λ (owner : Subscriber). lies_at s.leases owner (source_of sent) ≡ true) who.owner
+    (is_query_at 40 sent.bytes) (λ none.
+    let about = ports_quoted e inner is.sends.is shows (sym (behind_query f inner) ∙ none) in
+    let addr = behind_address f inner ∙ shows.address in
+    let port = behind_port f inner ∙ shown_port row.ext e inner false is.sends.is shows about (λ other. cc) in
+    ap₂ (λ (a p : ℕ). lies_at s.leases who.owner (place (ip4 a) p)) addr port ∙ there)
+
+source_relayed : {s : State} {i : Item} → IsReached s → IsRelayed s i → IsFromLease s.leases i
+source_relayed {s = s} h (GoesOut who row e same is abroad) = subst (IsFromLease s.leases) (sym same) (source_error_out h is)
+source_relayed {s = s} h (TurnsBack who row to e same is fits) = subst (IsFromLease s.leases) (sym same) (source_error_back to h is)
+source_relayed {s = s} {i = i} h (GoesIn row e same is fits) = nobodys s.leases i (ap (λ (x : Item). x.owner) same)
+
+at_relayed : {s : State} {i : Item} → IsRelayed s i → i.at.0 ≡ s.clock
+at_relayed (GoesOut who row e same is abroad) = ap (λ (x : Item). x.at.0) same
+at_relayed (TurnsBack who row to e same is fits) = ap (λ (x : Item). x.at.0) same
+at_relayed (GoesIn row e same is fits) = ap (λ (x : Item). x.at.0) same
 
 one_item : (P : Item → Type 0) (i : Item) → P i → All P (i ∷ [])
 one_item P i h = All-cons P i [] h (All-nil P)
@@ -99,7 +182,9 @@ pub source_treated : (s : State) (bytes : List ℕ) (kind : EventKind) → IsRea
 source_treated s bytes kind h = by_way (λ (t : Step). All (IsFromLease t.state.leases) t.items) s bytes kind (record {
   rests = All-nil (IsFromLease s.leases);
   drops = λ cause. All-nil (IsFromLease s.leases);
-  delivers = λ d row by. one_item (IsFromLease s.leases) (item s SoftwireSide None (delivered_bytes s d row)) (nobody _ (u8_at 49 (delivered_bytes s d row) == 1));
+  answers = λ got cause e is. one_item (IsFromLease s.leases) _ (nobodys s.leases (item s SoftwireSide None (answer_bytes s got e)) refl);
+  relays = λ i is. one_item (IsFromLease s.leases) i (source_relayed h is);
+  delivers = λ d row by. one_item (IsFromLease s.leases) _ (nobodys s.leases (item s SoftwireSide None (delivered_bytes s d row)) refl);
   forwards = λ got g by abroad.
       let bytes_out = datagram_bytes (translated true g.place got.datagram) in
       one_item (IsFromLease (sent_out s got g).state.leases) (item s PublicSide (Some got.who.owner) bytes_out) (source_out h by);
@@ -121,6 +206,8 @@ now_treated : (s : State) (bytes : List ℕ) (kind : EventKind)
 now_treated s bytes kind = by_way (λ (t : Step). All (IsAt t.state.clock) t.items) s bytes kind (record {
   rests = All-nil (IsAt s.clock);
   drops = λ cause. All-nil (IsAt s.clock);
+  answers = λ got cause e is. one_item (IsAt s.clock) _ refl;
+  relays = λ i is. one_item (IsAt s.clock) i (at_relayed is);
   delivers = λ d row by. one_item (IsAt s.clock) _ refl;
   forwards = λ got g by abroad. one_item (IsAt s.clock) _ refl;
   turns = λ got g row by turned. one_item (IsAt s.clock) _ refl;

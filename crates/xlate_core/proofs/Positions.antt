@@ -163,3 +163,13 @@ unfound_at proto ext rows (Some id) h = tt
 
 pub live_at : (proto : Proto) (ext : Ext) (rows : List Mapping) (id : RowId) → Some id ≡ row_at proto ext rows → id.0 < length rows
 live_at proto ext rows id found = in_range (is_at proto ext) rows id.0 (place_of (position (is_at proto ext) rows) id found)
+
+-- the same by a key
+pub found_key : (key : InnerKey) (rows : List Mapping) (o : Option RowId) → o ≡ row_of key rows
+    → IfSome o (λ id. (row : Mapping) × (slice_get rows id.0 ≡ Some row) × (find_out key rows ≡ Some row))
+found_key key rows None h = tt
+found_key key rows (Some id) h = let (r, lt, here, is) = found_row key rows id h in (r, here, is)
+
+pub unfound_key : (key : InnerKey) (rows : List Mapping) (o : Option RowId) → o ≡ row_of key rows → IfNone o (find_out key rows ≡ None)
+unfound_key key rows None h = unfound key rows h
+unfound_key key rows (Some id) h = tt

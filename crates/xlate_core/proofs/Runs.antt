@@ -94,6 +94,8 @@ pub lone_treated : (s : State) (bytes : List ℕ) (kind : EventKind) → IsLone 
 lone_treated s bytes kind = by_way IsLone s bytes kind (record {
   rests = record { items = omega arith; closings = refl; openings = omega arith; drops = omega arith };
   drops = λ cause. record { items = omega arith; closings = refl; openings = omega arith; drops = omega arith };
+  answers = λ got cause e is. record { items = omega arith; closings = refl; openings = omega arith; drops = omega arith };
+  relays = λ i is. record { items = omega arith; closings = refl; openings = omega arith; drops = omega arith };
   delivers = λ d row by. record { items = omega arith; closings = refl; openings = omega arith; drops = omega arith };
   forwards = λ got g by abroad. record { items = omega arith; closings = refl; openings = one_opening s g; drops = omega arith };
   turns = λ got g row by turned. record { items = omega arith; closings = refl; openings = one_opening s g; drops = omega arith };

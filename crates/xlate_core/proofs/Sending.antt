@@ -13,11 +13,13 @@ use Rattle.aftr_base.specs.declared.event.LogEvent.{LogEvent}
 use Rattle.xlate_core.specs.declared.grant.Flow.{Flow}
 use Rattle.xlate_core.specs.declared.grant.Grant.{Grant}
 use Rattle.xlate_core.specs.Datagram.{datagram_bytes, translated}
-use Rattle.xlate_core.specs.Outbound.{Outbound}
+use Rattle.xlate_core.specs.Outbound.{Outbound, Received}
 use Rattle.xlate_core.specs.Grant.{after_grant, opening_events}
-use Rattle.xlate_core.specs.State.{State, is_past_horizon}
+use Rattle.xlate_core.specs.State.{State, is_past_horizon, item}
 use Rattle.xlate_core.specs.Grant.{granted_only}
-use Rattle.xlate_core.specs.Step.{flow_of, hairpin_bytes, held_back, horizon_by, item, promise_by, sent_back, sent_out, with_horizon}
+use Rattle.icmp_xlate.specs.declared.made.MadeError.{MadeError}
+use Rattle.xlate_core.specs.Errors.{answer_bytes, error_about}
+use Rattle.xlate_core.specs.Step.{answered, dropped, flow_of, hairpin_bytes, held_back, horizon_by, promise_by, refused, sent_back, sent_out, with_horizon}
 use Rattle.xlate_core.specs.Stepped.{AreShort, HasStepped}
 
 pub one_short : (i : Item) → length i.bytes ≤ 65535 → AreShort (i ∷ [])
@@ -104,3 +106,31 @@ held_so s kept s' got g cause out out' there raised items logged =
       refusal = refl;
       short = All-nil (λ (i : Item). length i.bytes ≤ 65535);
     }
+
+-- a refusal of which the sender is told
+pub told_so : (s s' : State) (got : Received) (cause : DropCause) (e : MadeError) (out out' : StepOut) (bytes : List ℕ)
+    → Some e ≡ error_about s.config got.packet cause → bytes ≡ answer_bytes s got e → length bytes ≤ 65535 → s' ≡ s
+    → out'.items ≡ out.items ++ item s SoftwireSide None bytes ∷ [] → out'.log ≡ out.log
+    → HasStepped (with_horizon (refused s got cause)) out s' out' (Some cause)
+told_so s s' got cause e out out' bytes tells is short same items logged =
+    subst (λ (o : Option MadeError). HasStepped (with_horizon (elim o [ None ↦ dropped s cause | Some e ↦ answered s got cause e ])) out s' out' (Some cause))
+    tells (record {
+      reaches = same;
+      packets = items ∙ ap (λ (b : List ℕ). out.items ++ item s SoftwireSide None b ∷ []) is;
+      logged = logged ∙ sym (append-nil out.log);
+      refusal = refl;
+      short = one_short (item s SoftwireSide None (answer_bytes s got e)) (subst (λ (l : List ℕ). length l ≤ 65535) is short);
+    })
+
+-- and one of which it isn't
+pub untold_so : (s : State) (got : Received) (cause : DropCause) (out : StepOut) → None ≡ error_about s.config got.packet cause
+    → HasStepped (with_horizon (refused s got cause)) out s out (Some cause)
+untold_so s got cause out none =
+    subst (λ (o : Option MadeError). HasStepped (with_horizon (elim o [ None ↦ dropped s cause | Some e ↦ answered s got cause e ])) out s out (Some cause))
+    none (record {
+      reaches = refl;
+      packets = sym (append-nil out.items);
+      logged = sym (append-nil out.log);
+      refusal = refl;
+      short = All-nil (λ (i : Item). length i.bytes ≤ 65535);
+    })

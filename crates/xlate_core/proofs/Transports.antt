@@ -63,7 +63,7 @@ length_echo e = omega arith
 -- what a packet of this protocol number has behind its header: a transport with ports, or an echo message
 pub data HasBody (number : ℕ) (t : Transport) : Type 0 where
   IsPorts : (proto : Proto) (s : Segment) → t ≡ Ports proto s → (number == 1) ≡ false → HasBody number t
-  IsQuery : (e : Echo) → t ≡ Query e → number ≡ 1 → HasBody number t
+  IsQuery : (e : Echo) → t ≡ Query e → number ≡ 1 → is_echo e.kind ≡ true → HasBody number t
 
 -- a transport that was read from all these bytes
 pub record IsRead (number : ℕ) (bytes : List ℕ) (t : Transport) : Type 0 where
@@ -92,14 +92,15 @@ read_tcp n bytes t other h =
 read_echo : (n : ℕ) (bytes : List ℕ) (t : Transport) → n ≡ 1 → query_from bytes ≡ Ok t → IsRead n bytes t
 read_echo n bytes t one h =
     let (m, whole, next) = step_gave (refused_as (message_of bytes) BadPacket) _ t h in
-    let same = (test_passed (is_echo m.kind) _ _ t next).1 in
+    let (echo, same) = test_passed (is_echo m.kind) _ _ t next in
     let inside = gave_anyway (message_of bytes) BadPacket m whole in
     let (long, next') = test_passed (nat_le 8 (length bytes)) _ _ m inside in
     let made = (test_passed (is_sound bytes) _ _ m next').1 in
-    let is : Query (echo_of bytes) ≡ t = ap Query (ok_inj (echo_of bytes) m _ refl made) ∙ ok_inj (Query m) t _ refl same in
+    let read = ok_inj (echo_of bytes) m _ refl made in
+    let is : Query (echo_of bytes) ≡ t = ap Query read ∙ ok_inj (Query m) t _ refl same in
     subst (IsRead n bytes) is (record {
       size = omega (arith, length_echo (echo_of bytes), length-drop 6 bytes, leb-true 8 (length bytes) long);
-      body = IsQuery (echo_of bytes) refl one;
+      body = IsQuery (echo_of bytes) refl one (subst (λ (x : Echo). is_echo x.kind ≡ true) (sym read) echo);
     })
 
 -- whether it is ICMP's, by its number
@@ -121,7 +122,7 @@ numbered_by n false false true Udp e f g h = cc
 numbered_by n false false true Tcp e f g h = cc
 numbered_by n false false false proto e f g h = cc
 
-numbered : (n : ℕ) (proto : Proto) → proto_from n ≡ Ok proto → IsNumbered n proto
+pub numbered : (n : ℕ) (proto : Proto) → proto_from n ≡ Ok proto → IsNumbered n proto
 numbered n proto h = numbered_by n (n == 17) (n == 6) (n == 1) proto refl refl refl h
 
 pub is_read : (n : ℕ) (proto : Proto) (bytes : List ℕ) (t : Transport) → proto_from n ≡ Ok proto → transport_from proto bytes ≡ Ok t

@@ -286,14 +286,20 @@ opened_lies s f b ok free =
     list_any-append lies s.leases (l ∷ [])
     ∙ or_right (list_any lies s.leases) (list_any lies (l ∷ [])) (or_left (lies l) false here)
 
+-- the place of a row lies in an open lease of its key's subscriber
+pub row_lies : (s : State) (key : InnerKey) (owner : Subscriber) (r : Mapping) → subscriber_of s.config key.softwire ≡ Some owner
+    → find_out key s.rows ≡ Some r → IsConsistent s → lies_at s.leases owner r.ext ≡ true
+row_lies s key owner r owns found v =
+    let hit = is_of key in
+    let owned = found_in (λ q. is_owned s q ≡ true) hit s.rows r v.owned found in
+    let own = kept_owner s key owner r owns (found_passes hit s.rows r found) owned in
+    let lies = found_in (λ q. is_granted s q ≡ true) hit s.rows r v.granted found in
+    subst (λ (o : Subscriber). lies_at s.leases o r.ext ≡ true) own lies
+
 granted_case : (s : State) (f : Flow) (g : Grant) → IsGrant s f g → IsConsistent s → GrantCase s f g
     → lies_at (after s g) f.who.owner g.place ≡ true
 granted_case s f g h v (Keeps r found same) =
-    let hit = is_of f.key in
-    let owned = found_in (λ q. is_owned s q ≡ true) hit s.rows r v.owned found in
-    let own = kept_owner s f.key f.who.owner r h.owns (found_passes hit s.rows r found) owned in
-    let lies = found_in (λ q. is_granted s q ≡ true) hit s.rows r v.granted found in
-    let here : lies_at s.leases f.who.owner r.ext ≡ true = subst (λ (o : Subscriber). lies_at s.leases o r.ext ≡ true) own lies in
+    let here = row_lies s f.key f.who.owner r h.owns found v in
     subst (λ (x : Grant). lies_at (after s x) f.who.owner x.place ≡ true) (sym same) (lies_more f.who.owner r.ext s.leases [] here)
 granted_case s f g h v (Takes x none taken same) =
     let here = taken_granted s f x taken in

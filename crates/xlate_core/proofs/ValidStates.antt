@@ -54,6 +54,8 @@ pub treated_beside : (s : State) (bytes : List ℕ) (kind : EventKind) → IsBes
 treated_beside s bytes kind = by_way (IsBeside s) s bytes kind (record {
   rests = record { clock = refl; config = refl; floor = refl; horizon = refl; plans = refl };
   drops = λ cause. record { clock = refl; config = refl; floor = refl; horizon = refl; plans = refl };
+  answers = λ got cause e is. record { clock = refl; config = refl; floor = refl; horizon = refl; plans = refl };
+  relays = λ i is. record { clock = refl; config = refl; floor = refl; horizon = refl; plans = refl };
   delivers = λ d r by. record { clock = refl; config = refl; floor = refl; horizon = refl; plans = refl };
   forwards = λ got g by abroad. record { clock = refl; config = refl; floor = refl; horizon = refl; plans = refl };
   turns = λ got g row by turned. record { clock = refl; config = refl; floor = refl; horizon = refl; plans = refl };
@@ -61,7 +63,7 @@ treated_beside s bytes kind = by_way (IsBeside s) s bytes kind (record {
 })
 
 -- a packet that goes out was granted its place
-pub grant_out : {s : State} {bytes : List ℕ} {got : Outbound} {g : Grant} → is_accepted s.config ≡ true → IsOut s bytes got g
+pub grant_out : {s : State} {got : Outbound} {g : Grant} → is_accepted s.config ≡ true → IsOut s got g
     → IsGrant s (flow_of got) g
 grant_out ok by = record { accepted = ok; owns = by.owns; grants = by.grants }
 
@@ -89,6 +91,8 @@ pub consistent_treated : (s : State) (bytes : List ℕ) (kind : EventKind) → i
 consistent_treated s bytes kind ok v = by_way (λ (t : Step). IsConsistent t.state) s bytes kind (record {
   rests = v;
   drops = λ cause. v;
+  answers = λ got cause e is. v;
+  relays = λ i is. v;
   delivers = λ d r by. consistent_inbound s (arrival_of d) v;
   forwards = λ got g by abroad. consistent_grant (grant_out ok by) v;
   turns = λ got g row by back.

@@ -1,24 +1,31 @@
 -- What a datagram is that was received, and how long it is as it goes on.
 use Rattle.std.proofs.Common.{◌≡◌, ℕ, ◌+◌, ◌-◌, ◌/◌, ◌≤◌, Bool, true, false, cond, not, ◌&&◌, ◌||◌, ◌==◌, List, [], ◌∷◌, ◌++◌, length, take}
-use Rattle.std.proofs.Common.{drop, Option, Some, None, option_map, Ok, nat_le, nat_lt, refl, sym, ap, ◌∙◌, subst, arith, length-append}
+use Rattle.std.proofs.Common.{drop, Option, Some, None, option_map, ok_or, Result, Ok, Err, nat_le, nat_lt, refl, sym, ap, ◌∙◌, subst, arith, length-append}
 use Rattle.std.proofs.lemmas.Bool.{and_parts, leb-true, ltb-false, eqb-true, not-true, or_parts}
 use Rattle.std.proofs.lemmas.List.{length-take, length-drop, nil_from_length}
+use Rattle.std.specs.Prelude.{if◌then◌else◌}
 use Rattle.aftr_base.specs.Attempt.{refused_as}
 use Rattle.aftr_base.specs.Bytes.{be16, be32, be128, u8_at}
 use Rattle.aftr_base.specs.Checksum.{is_sound, adjusted}
 use Rattle.aftr_base.specs.declared.value.Ip6.{Ip6}
 use Rattle.aftr_base.specs.declared.value.Ext.{Ext}
+use Rattle.aftr_base.specs.declared.value.Proto.{Proto}
 use Rattle.aftr_base.specs.declared.event.DropCause.TheVariants.{BadPacket}
 use Rattle.cfg_text.specs.declared.config.Config.{Config}
 use Rattle.softwire.specs.Tunnel.{tunnel_packet}
 use Rattle.wire_ip4.specs.Grammar.{Header, header_bytes, header_of, front_of, len_of, is_piece, packet_of as ip4_packet}
+use Rattle.icmp_xlate.specs.Errors.{ErrorPacket, error_of}
 use Rattle.wire_l4.specs.Grammar.{Segment, Echo, Transport, Ports, Query, sum_bytes, transport_bytes}
 use Rattle.wire_l4.specs.Places.{replaced, segment_sum}
 use Rattle.xlate_core.specs.State.{is_ours}
 use Rattle.xlate_core.specs.Datagram.{Datagram, datagram_bytes, hairpinned, translated, place_on}
-use Rattle.xlate_core.specs.Packet.{plain_ip4, proto_from, datagram_of, has_route, is_routable, transport_from}
+use Rattle.xlate_core.specs.declared.packet.Content.TheVariants.{Carries, Reports}
+use Rattle.xlate_core.specs.Content.{content_of, datagram_content, error_content, is_report}
+use Rattle.wire_ip4.specs.declared.fields.Ip4Bad.{Ip4Bad}
+use Rattle.xlate_core.specs.Packet.{IsPlain as IsPlainIn, packet_in}
+use Rattle.xlate_core.specs.Packet.{plain_ip4, proto_from, has_route, is_routable, transport_from}
 use Rattle.xlate_core.specs.Outbound.{outward}
-use Rattle.xlate_core.specs.Inbound.{inbound_of}
+use Rattle.xlate_core.specs.Inbound.{inward}
 use Rattle.xlate_core.proofs.Transports.{HasBody, IsRead, is_read, length_echo, length_segment}
 use Rattle.xlate_core.proofs.Attempts.{step_gave, test_passed, gave_anyway, ok_inj}
 
@@ -64,11 +71,11 @@ packet_total bytes p h =
     subst (λ (q : Header × List ℕ). q.0.fields.total ≡ 20 + length q.0.options + length q.1) (ok_inj made p _ refl same)
     (omega (arith, length-take (total - len_of bytes) front.1, least, most, is.least, is.most, is.options, is.rest))
 
-record IsPlain (p : Header × List ℕ) : Type 0 where
-  options : p.0.options ≡ []
-  total : p.0.fields.total ≡ 20 + length p.1
+pub record IsPlain (p : Header × List ℕ) : Type 0 where
+  pub options : p.0.options ≡ []
+  pub total : p.0.fields.total ≡ 20 + length p.1
 
-is_plain : (bytes : List ℕ) (p : Header × List ℕ) → plain_ip4 bytes ≡ Ok p → IsPlain p
+pub is_plain : (bytes : List ℕ) (p : Header × List ℕ) → plain_ip4 bytes ≡ Ok p → IsPlain p
 is_plain bytes p h =
     let (q, whole, next) = step_gave (refused_as (ip4_packet bytes) BadPacket) _ p h in
     let (bare, same) = test_passed (length q.0.options == 0) _ _ p next in
@@ -77,6 +84,33 @@ is_plain bytes p h =
       options = nil_from_length q.0.options none;
       total = omega (arith, packet_total bytes q (gave_anyway (ip4_packet bytes) BadPacket q whole), none);
     })
+
+-- a packet without options that is no piece
+pub record IsWholePacket (p : Header × List ℕ) : Type 0 where
+  pub plain : IsPlain p
+  pub unbroken : is_piece p.0 ≡ false
+
+pub plain_reads : (bytes : List ℕ) (p : Header × List ℕ) → plain_ip4 bytes ≡ Ok p → ip4_packet bytes ≡ Ok p
+plain_reads bytes p h =
+    let (q, whole, next) = step_gave (refused_as (ip4_packet bytes) BadPacket) _ p h in
+    let same = (test_passed (length q.0.options == 0) _ _ p next).1 in
+    subst (λ (x : Header × List ℕ). ip4_packet bytes ≡ Ok x) (ok_inj q p _ refl same) (gave_anyway (ip4_packet bytes) BadPacket q whole)
+
+packet_by : (bytes : List ℕ) (p : Header × List ℕ) → ip4_packet bytes ≡ Ok p → packet_in bytes ≡ p
+packet_by bytes p h = ap (λ (r : Result (Header × List ℕ) Ip4Bad). elim r [ Ok packet ↦ packet | Err bad ↦ (header_of bytes, []) ]) h
+
+-- what was read stands there
+pub plain_in : (bytes : List ℕ) (p : Header × List ℕ) → plain_ip4 bytes ≡ Ok p → IsPlainIn bytes × (packet_in bytes ≡ p)
+plain_in bytes p h =
+    let there = packet_by bytes p (plain_reads bytes p h) in
+    let plain = is_plain bytes p h in
+    let is : IsPlainIn bytes = record {
+      reads = plain_reads bytes p h ∙ ap Ok (sym there);
+      bare = ap (λ (q : Header × List ℕ). q.0.options) there ∙ plain.options;
+      total = ap (λ (q : Header × List ℕ). q.0.fields.total) there ∙ plain.total
+          ∙ ap (λ (q : Header × List ℕ). 20 + length q.1) (sym there);
+    } in
+    (is, there)
 
 -- ---- the datagram in it
 
@@ -94,6 +128,9 @@ pub record IsWhole (d : Datagram) : Type 0 where
   pub body : HasBody d.header.fields.proto d.body
   pub total : d.header.fields.total ≡ 20 + length (transport_bytes d.body)
 
+carries_inj : (x y : Datagram) → Carries x ≡ Carries y → x ≡ y
+carries_inj x y h = cc
+
 abbrev datagram_with : Header → Transport → Datagram
 datagram_with h t = record { header = h; body = t }
 
@@ -110,13 +147,33 @@ read_whole p t plain unbroken ttl is =
       total = omega (arith, plain.total, is.size);
     }
 
-is_whole : (p : Header × List ℕ) (d : Datagram) → IsPlain p → is_piece p.0 ≡ false → datagram_of p ≡ Ok d → IsWhole d
-is_whole p d plain unbroken h =
-    let (proto, known, next) = step_gave (proto_from p.0.fields.proto) _ d h in
-    let (ttl, next') = test_passed (nat_le 2 p.0.fields.ttl) _ _ d next in
-    let (t, holds, same) = step_gave (transport_from proto p.1) _ d next' in
-    subst IsWhole (ok_inj (datagram_with p.0 t) d _ refl same)
-    (read_whole p t plain unbroken (leb-true 2 p.0.fields.ttl ttl) (is_read p.0.fields.proto proto p.1 t known holds))
+is_whole : (p : Header × List ℕ) (proto : Proto) (d : Datagram) → IsWholePacket p → 2 ≤ p.0.fields.ttl
+    → proto_from p.0.fields.proto ≡ Ok proto → datagram_content proto p ≡ Ok (Carries d) → IsWhole d × (p.0 ≡ d.header)
+is_whole p proto d packet ttl known h =
+    let (t, holds, same) = step_gave (transport_from proto p.1) _ (Carries d) h in
+    let made = datagram_with p.0 t in
+    let is : made ≡ d = carries_inj made d (ok_inj (Carries made) (Carries d) _ refl same) in
+    let whole = read_whole p t packet.plain packet.unbroken ttl (is_read p.0.fields.proto proto p.1 t known holds) in
+    (subst IsWhole is whole, ap (λ (x : Datagram). x.header) is)
+
+-- ---- what a packet brings
+
+carries_by : (o : Option ErrorPacket) (d : Datagram) → ok_or (option_map Reports o) BadPacket ≡ Ok (Carries d) → ⊥
+carries_by None d h = cc
+carries_by (Some e) d h = cc
+
+content_by : (p : Header × List ℕ) (proto : Proto) (report : Bool) (d : Datagram)
+    → (if report then error_content p else datagram_content proto p) ≡ Ok (Carries d) → datagram_content proto p ≡ Ok (Carries d)
+content_by p proto true d h = absurd (carries_by (error_of p) d h)
+content_by p proto false d h = h
+
+-- a datagram
+pub carries_whole : (p : Header × List ℕ) (d : Datagram) → IsWholePacket p → content_of p ≡ Ok (Carries d)
+    → IsWhole d × (p.0 ≡ d.header)
+carries_whole p d packet h =
+    let (proto, known, next) = step_gave (proto_from p.0.fields.proto) _ (Carries d) h in
+    let (ttl, next') = test_passed (nat_le 2 p.0.fields.ttl) _ _ (Carries d) next in
+    is_whole p proto d packet (leb-true 2 p.0.fields.ttl ttl) known (content_by p proto (is_report proto p.1) d next')
 
 -- ---- either way
 
@@ -126,32 +183,25 @@ pub record IsOutward (c : Config) (d : Datagram) : Type 0 where
   pub routed : has_route d.header ≡ true
   pub fits : is_ours c d.header.fields.dst ≡ false → d.header.fields.total ≤ c.public_mtu
 
-fits_abroad : (back fits : Bool) → (back || fits) ≡ true → back ≡ false → fits ≡ true
+pub fits_abroad : (back fits : Bool) → (back || fits) ≡ true → back ≡ false → fits ≡ true
 fits_abroad true fits h e = cc
 fits_abroad false fits h e = h
 
-header_kept : (p : Header × List ℕ) (d : Datagram) → datagram_of p ≡ Ok d → p.0 ≡ d.header
-header_kept p d h =
-    let (proto, known, next) = step_gave (proto_from p.0.fields.proto) _ d h in
-    let next' = (test_passed (nat_le 2 p.0.fields.ttl) _ _ d next).1 in
-    let (t, holds, same) = step_gave (transport_from proto p.1) _ d next' in
-    ap (λ (x : Datagram). x.header) (ok_inj (datagram_with p.0 t) d _ refl same)
-
-pub is_outward : (c : Config) (inner : List ℕ) (d : Datagram) → outward c inner ≡ Ok d → IsOutward c d
-is_outward c inner d h =
-    let (p, plain, next) = step_gave (plain_ip4 inner) _ d h in
-    let (unbroken, next1) = test_passed (not (is_piece p.0)) _ _ d next in
-    let (routed, next2) = test_passed (has_route p.0) _ _ d next1 in
-    let (x, holds, next3) = step_gave (datagram_of p) _ d next2 in
-    let f = x.header.fields in
+pub is_outward : (c : Config) (p : Header × List ℕ) (d : Datagram) → IsWholePacket p → outward c p ≡ Ok (Carries d) → IsOutward c d
+is_outward c p d packet h =
+    let f = p.0.fields in
     let short = nat_le f.total c.public_mtu in
-    let next4 = (test_passed (is_ours c f.dst || short || not f.dont_cut) _ _ d next3).1 in
-    let (fits, same) = test_passed (is_ours c f.dst || short) _ _ d next4 in
-    subst (IsOutward c) (ok_inj x d _ refl same) (record {
-      whole = is_whole p x (is_plain inner p plain) (not-true (is_piece p.0) unbroken) holds;
-      routed = subst (λ (k : Header). has_route k ≡ true) (header_kept p x holds) routed;
-      fits = λ abroad. leb-true f.total c.public_mtu (fits_abroad (is_ours c f.dst) short fits abroad);
-    })
+    let (routed, next) = test_passed (has_route p.0) _ _ (Carries d) h in
+    let (x, holds, next1) = step_gave (content_of p) _ (Carries d) next in
+    let next2 = (test_passed (is_ours c f.dst || short || not f.dont_cut) _ _ (Carries d) next1).1 in
+    let (fits, same) = test_passed (is_ours c f.dst || short) _ _ (Carries d) next2 in
+    let (whole, kept) = carries_whole p d packet (holds ∙ same) in
+    record {
+      whole = whole;
+      routed = subst (λ (k : Header). has_route k ≡ true) kept routed;
+      fits = subst (λ (k : Header). is_ours c k.fields.dst ≡ false → k.fields.total ≤ c.public_mtu) kept
+          (λ abroad. leb-true f.total c.public_mtu (fits_abroad (is_ours c f.dst) short fits abroad));
+    }
 
 -- what the public side sends: from a routed address outside the pool to one of the pool
 pub record IsInward (c : Config) (d : Datagram) : Type 0 where
@@ -160,17 +210,15 @@ pub record IsInward (c : Config) (d : Datagram) : Type 0 where
   pub routed : is_routable d.header.fields.src ≡ true
   pub foreign : is_ours c d.header.fields.src ≡ false
 
-pub is_inward : (c : Config) (bytes : List ℕ) (d : Datagram) → inbound_of c bytes ≡ Ok d → IsInward c d
-is_inward c bytes d h =
-    let (p, plain, next) = step_gave (plain_ip4 bytes) _ d h in
+pub is_inward : (c : Config) (p : Header × List ℕ) (d : Datagram) → IsWholePacket p → is_ours c p.0.fields.dst ≡ true
+    → inward c p ≡ Ok (Carries d) → IsInward c d
+is_inward c p d packet enters h =
     let f = p.0.fields in
-    let (enters, next1) = test_passed (is_ours c f.dst) _ _ d next in
-    let (unbroken, next2) = test_passed (not (is_piece p.0)) _ _ d next1 in
-    let (from, holds) = test_passed (is_routable f.src && not (is_ours c f.src)) _ _ d next2 in
+    let (from, holds) = test_passed (is_routable f.src && not (is_ours c f.src)) _ _ (Carries d) h in
     let both = and_parts (is_routable f.src) (not (is_ours c f.src)) from in
-    let same = header_kept p d holds in
+    let (whole, same) = carries_whole p d packet holds in
     record {
-      whole = is_whole p d (is_plain bytes p plain) (not-true (is_piece p.0) unbroken) holds;
+      whole = whole;
       enters = subst (λ (k : Header). is_ours c k.fields.dst ≡ true) same enters;
       routed = subst (λ (k : Header). is_routable k.fields.src ≡ true) same both.0;
       foreign = subst (λ (k : Header). is_ours c k.fields.src ≡ false) same (not-true (is_ours c f.src) both.1);
@@ -178,12 +226,12 @@ is_inward c bytes d h =
 
 -- ---- as it goes on
 
-length_header : (h : Header) (rest : List ℕ) → length (header_bytes h ++ rest) ≡ 20 + length h.options + length rest
+pub length_header : (h : Header) (rest : List ℕ) → length (header_bytes h ++ rest) ≡ 20 + length h.options + length rest
 unfolding be16 be32
 length_header h rest = omega (arith, length-append h.options rest)
 
 -- the transport stays as long as it was
-length_replaced : (source : Bool) (old new : Ext) (t : Transport)
+pub length_replaced : (source : Bool) (old new : Ext) (t : Transport)
     → length (transport_bytes (replaced source old new t)) ≡ length (transport_bytes t)
 length_replaced source old new (Ports p s) =
     let after : Segment = record s {

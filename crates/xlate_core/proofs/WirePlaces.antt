@@ -1,11 +1,10 @@
 -- Places of leases fit into an IPv4 header and a UDP header, and are read back from there.
 use Rattle.std.proofs.Common.{◌≡◌, ℕ, ◌^◌, ◌<◌, ◌≤◌, ◌==◌, Bool, true, false, List, [], ◌∷◌, ◌++◌, option_map, option_to_list, None}
 use Rattle.std.proofs.Common.{All, refl, sym, ap, ◌∙◌, subst, arith}
-use Rattle.std.specs.Prelude.{IfSome}
+use Rattle.std.specs.Prelude.{IfSome, not, ◌&&◌, ◌||◌}
 use Rattle.std.proofs.lemmas.List.Elements.{All-weaker, All-nil, All-cons, All-append}
 use Rattle.std.proofs.lemmas.Nat.{from_be_bytes-to_be_bytes_2, from_be_bytes-to_be_bytes_4}
-use Rattle.std.specs.Prelude.{if◌then◌else◌}
-use Rattle.std.proofs.lemmas.Bool.{both_ways, eq-eqb}
+use Rattle.std.proofs.lemmas.Bool.{both_ways, eq-eqb, eqb-true}
 use Rattle.aftr_base.specs.Bytes.{u8_at, u16_at, u32_at, be16, be32, be128}
 use Rattle.aftr_base.specs.Checksum.{adjusted}
 use Rattle.aftr_base.specs.Value.{moment}
@@ -20,6 +19,7 @@ use Rattle.aftr_base.proofs.Founds.{any_gives}
 use Rattle.cfg_text.specs.Accepted.{is_accepted}
 use Rattle.cfg_text.proofs.Facts.{facts}
 use Rattle.wire_ip4.specs.Grammar.{Header, header_bytes}
+use Rattle.wire_icmp.specs.Quoted.{is_echo}
 use Rattle.wire_ip6.specs.declared.fields.Ip6Fields.{Ip6Fields}
 use Rattle.wire_ip6.specs.Grammar.{header_bytes as tunnel_header}
 use Rattle.wire_l4.specs.Grammar.{Segment, Echo, Transport, Ports, Query, echo_bytes, segment_bytes, transport_bytes}
@@ -38,7 +38,8 @@ use Rattle.xlate_core.specs.Grant.{after_grant}
 use Rattle.xlate_core.specs.Datagram.{Datagram, datagram_bytes, hairpinned, place_on, translated}
 use Rattle.xlate_core.specs.Step.{step, treatment}
 use Rattle.xlate_core.proofs.Clock.{by_moment}
-use Rattle.xlate_core.specs.Sources.{port_offset}
+use Rattle.xlate_core.specs.Packet.{is_fault}
+use Rattle.xlate_core.specs.Sources.{is_query_at, port_at, port_offset}
 use Rattle.xlate_core.proofs.Transports.{HasBody, IsPorts, IsQuery}
 use Rattle.xlate_core.proofs.WholeDatagrams.{IsWhole}
 use Rattle.xlate_core.proofs.Treatments.{by_way}
@@ -81,34 +82,63 @@ bare_id h e lt = from_be_bytes-to_be_bytes_2 e.id lt
 id_read : (h : Header) (e : Echo) → h.options ≡ [] → e.id < 2 ^ 16 → u16_at 24 (header_bytes h ++ echo_bytes e) ≡ e.id
 id_read h e bare lt = ap (λ (o : List ℕ). u16_at 24 (header_bytes (record h { options = o }) ++ echo_bytes e)) bare ∙ bare_id h e lt
 
+-- the type of an ICMP message is read, too, and that of an echo message is no error's
+bare_kind : (h : Header) (e : Echo) → u8_at 20 (header_bytes (record h { options = [] }) ++ echo_bytes e) ≡ e.kind
+unfolding be16 be32
+bare_kind h e = refl
+
+kind_read : (h : Header) (e : Echo) → h.options ≡ [] → u8_at 20 (header_bytes h ++ echo_bytes e) ≡ e.kind
+kind_read h e bare = ap (λ (o : List ℕ). u8_at 20 (header_bytes (record h { options = o }) ++ echo_bytes e)) bare ∙ bare_kind h e
+
+echo_by : (n : ℕ) (a b : Bool) → (n == 8) ≡ a → (n == 0) ≡ b → (a || b) ≡ true → is_fault n ≡ false
+echo_by n true b e f h = ap is_fault (eqb-true n 8 e)
+echo_by n false true e f h = ap is_fault (eqb-true n 0 f)
+echo_by n false false e f h = cc
+
+no_fault : (n : ℕ) → is_echo n ≡ true → is_fault n ≡ false
+no_fault n h = echo_by n (n == 8) (n == 0) refl refl h
+
 -- the source port or the identifier of a packet
 abbrev pub port_in : List ℕ → ℕ
-port_in bytes = u16_at (port_offset 0 (u8_at 9 bytes)) bytes
+port_in bytes = port_at 0 bytes
 
-abbrev at_offset : Bool → List ℕ → ℕ
-at_offset query bytes = u16_at (if query then 24 else 20) bytes
+abbrev at_offset : Bool → Bool → Bool → List ℕ → ℕ
+at_offset icmp error about bytes = u16_at (port_offset 0 icmp error about) bytes
 
--- by which of them the protocol has
-port_by : (h : Header) (t : Transport) (port : ℕ) (query : Bool) → (h.fields.proto == 1) ≡ query
-    → at_offset query (header_bytes h ++ transport_bytes t) ≡ port → port_in (header_bytes h ++ transport_bytes t) ≡ port
-port_by h t port query known there =
-    ap (λ (n : ℕ). at_offset (n == 1) (header_bytes h ++ transport_bytes t)) (proto_read h (transport_bytes t))
-    ∙ ap (λ (b : Bool). at_offset b (header_bytes h ++ transport_bytes t)) known ∙ there
+-- by what stands there
+pub port_by : (bytes : List ℕ) (icmp error about : Bool) → (u8_at 9 bytes == 1) ≡ icmp → is_fault (u8_at 20 bytes) ≡ error
+    → (u8_at 37 bytes == 1) ≡ about → port_in bytes ≡ at_offset icmp error about bytes
+port_by bytes icmp error about e f g = λ i. at_offset (e i) (f i) (g i) bytes
+
+-- a packet with ports
+port_of : (h : Header) (s : Segment) → (h.fields.proto == 1) ≡ false → h.options ≡ [] → s.src < 2 ^ 16
+    → port_in (header_bytes h ++ segment_bytes s) ≡ s.src
+port_of h s other bare lt =
+    let bytes = header_bytes h ++ segment_bytes s in
+    port_by bytes false (is_fault (u8_at 20 bytes)) (u8_at 37 bytes == 1) (ap (λ (n : ℕ). n == 1) (proto_read h (segment_bytes s)) ∙ other) refl refl
+    ∙ port_read h s bare lt
+
+-- an echo message
+id_of : (h : Header) (e : Echo) → h.fields.proto ≡ 1 → is_echo e.kind ≡ true → h.options ≡ [] → e.id < 2 ^ 16
+    → port_in (header_bytes h ++ echo_bytes e) ≡ e.id
+id_of h e one echo bare lt =
+    let bytes = header_bytes h ++ echo_bytes e in
+    port_by bytes true false (u8_at 37 bytes == 1) (eq-eqb (u8_at 9 bytes) 1 (proto_read h (echo_bytes e) ∙ one))
+    (ap is_fault (kind_read h e bare) ∙ no_fault e.kind echo) refl
+    ∙ id_read h e bare lt
 
 out_of : (e : Ext) (d : Datagram) (t : Transport) → HasBody d.header.fields.proto t → d.header.options ≡ [] → e.port < 2 ^ 16
     → port_in (datagram_bytes (translated true e (with_body d t))) ≡ e.port
 out_of e d t (IsPorts p s is other) bare lt =
     let before = with_body d (Ports p s) in
     let after : Segment = record s { src = e.port; sum = option_map (segment_sum p (place_on true before) e) s.sum } in
-    let h = (translated true e before).header in
     ap (λ (x : Transport). port_in (datagram_bytes (translated true e (with_body d x)))) is
-    ∙ port_by h (Ports p after) e.port false other (port_read h after bare lt)
-out_of e d t (IsQuery q is one) bare lt =
+    ∙ port_of (translated true e before).header after other bare lt
+out_of e d t (IsQuery q is one echo) bare lt =
     let before = with_body d (Query q) in
     let after : Echo = record q { id = e.port; sum = adjusted q.sum (q.id ∷ []) (e.port ∷ []) } in
-    let h = (translated true e before).header in
     ap (λ (x : Transport). port_in (datagram_bytes (translated true e (with_body d x)))) is
-    ∙ port_by h (Query after) e.port true (eq-eqb d.header.fields.proto 1 one) (id_read h after bare lt)
+    ∙ id_of (translated true e before).header after one echo bare lt
 
 pub port_out : (e : Ext) (d : Datagram) → IsWhole d → e.port < 2 ^ 16 → port_in (datagram_bytes (translated true e d)) ≡ e.port
 port_out e d is lt = out_of e d d.body is.body is.options lt
@@ -124,37 +154,70 @@ pub behind_proto : (f : Ip6Fields) (inner : List ℕ) → u8_at 49 (tunnel_heade
 unfolding be16 be32 be128
 behind_proto f inner = refl
 
-port_behind : (f : Ip6Fields) (inner : List ℕ) (query : Bool)
-    → u16_at (if query then 64 else 60) (tunnel_header f ++ inner) ≡ at_offset query inner
+pub behind_kind : (f : Ip6Fields) (inner : List ℕ) → u8_at 60 (tunnel_header f ++ inner) ≡ u8_at 20 inner
 unfolding be16 be32 be128
-port_behind f inner true = refl
-port_behind f inner false = refl
+behind_kind f inner = refl
 
-pub behind_port : (f : Ip6Fields) (inner : List ℕ)
-    → u16_at (port_offset 40 (u8_at 49 (tunnel_header f ++ inner))) (tunnel_header f ++ inner) ≡ port_in inner
+pub behind_number : (f : Ip6Fields) (inner : List ℕ) → u8_at 77 (tunnel_header f ++ inner) ≡ u8_at 37 inner
+unfolding be16 be32 be128
+behind_number f inner = refl
+
+port_behind : (f : Ip6Fields) (inner : List ℕ) (icmp error about : Bool)
+    → u16_at (port_offset 40 icmp error about) (tunnel_header f ++ inner) ≡ at_offset icmp error about inner
+unfolding be16 be32 be128
+port_behind f inner false error about = refl
+port_behind f inner true false about = refl
+port_behind f inner true true true = refl
+port_behind f inner true true false = refl
+
+pub behind_port : (f : Ip6Fields) (inner : List ℕ) → port_at 40 (tunnel_header f ++ inner) ≡ port_in inner
 behind_port f inner =
-    ap (λ (n : ℕ). u16_at (port_offset 40 n) (tunnel_header f ++ inner)) (behind_proto f inner)
-    ∙ port_behind f inner (u8_at 9 inner == 1)
+    let whole = tunnel_header f ++ inner in
+    (λ i. u16_at (port_offset 40 (behind_proto f inner i == 1) (is_fault (behind_kind f inner i)) (behind_number f inner i == 1)) whole)
+    ∙ port_behind f inner (u8_at 9 inner == 1) (is_fault (u8_at 20 inner)) (u8_at 37 inner == 1)
+
+-- and whether that is an identifier
+pub behind_query : (f : Ip6Fields) (inner : List ℕ) → is_query_at 40 (tunnel_header f ++ inner) ≡ is_query_at 0 inner
+behind_query f inner = λ i. (behind_proto f inner i == 1) && (not (is_fault (behind_kind f inner i)) || behind_number f inner i == 1)
 
 pub address_back : (src dst : Ext) (d : Datagram) → src.addr.0 < 2 ^ 32 → u32_at 12 (datagram_bytes (hairpinned src dst d)) ≡ src.addr.0
 address_back src dst d lt = address_read (hairpinned src dst d).header (transport_bytes (hairpinned src dst d).body) lt
 
 back_of : (src dst : Ext) (d : Datagram) (t : Transport) → HasBody d.header.fields.proto t → (d.header.fields.proto == 1) ≡ false
     → d.header.options ≡ [] → src.port < 2 ^ 16 → port_in (datagram_bytes (hairpinned src dst (with_body d t))) ≡ src.port
-back_of src dst d t (IsQuery e is one) other bare lt = absurd (both_ways (d.header.fields.proto == 1) other (eq-eqb d.header.fields.proto 1 one))
+back_of src dst d t (IsQuery e is one echo) other bare lt =
+    absurd (both_ways (d.header.fields.proto == 1) other (eq-eqb d.header.fields.proto 1 one))
 back_of src dst d t (IsPorts p s is also) other bare lt =
     let before = with_body d (Ports p s) in
     let out : Segment = record s { src = src.port; sum = option_map (segment_sum p (place_on true before) src) s.sum } in
     let turned = translated true src before in
     let after : Segment = record out { dst = dst.port; sum = option_map (segment_sum p (place_on false turned) dst) out.sum } in
-    let h = (hairpinned src dst before).header in
     ap (λ (x : Transport). port_in (datagram_bytes (hairpinned src dst (with_body d x)))) is
-    ∙ port_by h (Ports p after) src.port false other (port_read h after bare lt)
+    ∙ port_of (hairpinned src dst before).header after other bare lt
 
 -- but of an echo message
 pub port_back : (src dst : Ext) (d : Datagram) → IsWhole d → (d.header.fields.proto == 1) ≡ false → src.port < 2 ^ 16
     → port_in (datagram_bytes (hairpinned src dst d)) ≡ src.port
 port_back src dst d is other lt = back_of src dst d d.body is.body other is.options lt
+
+-- which is a query, whatever it says of itself
+query_of : (src dst : Ext) (d : Datagram) (t : Transport) → HasBody d.header.fields.proto t → d.header.options ≡ []
+    → is_query_at 0 (datagram_bytes (hairpinned src dst (with_body d t))) ≡ false → (d.header.fields.proto == 1) ≡ false
+query_of src dst d t (IsPorts p s is also) bare none = also
+query_of src dst d t (IsQuery e is one echo) bare none =
+    let before = with_body d (Query e) in
+    let out : Echo = record e { id = src.port; sum = adjusted e.sum (e.id ∷ []) (src.port ∷ []) } in
+    let after : Echo = record out { id = dst.port; sum = adjusted out.sum (out.id ∷ []) (dst.port ∷ []) } in
+    let h = (hairpinned src dst before).header in
+    let bytes = header_bytes h ++ echo_bytes after in
+    let icmp : (u8_at 9 bytes == 1) ≡ true = eq-eqb (u8_at 9 bytes) 1 (proto_read h (echo_bytes after) ∙ one) in
+    let fault : is_fault (u8_at 20 bytes) ≡ false = ap is_fault (kind_read h after bare) ∙ no_fault e.kind echo in
+    let query : is_query_at 0 bytes ≡ true = λ i. icmp i && (not (fault i) || u8_at 37 bytes == 1) in
+    absurd (both_ways (is_query_at 0 bytes) (ap (λ (x : Transport). is_query_at 0 (datagram_bytes (hairpinned src dst (with_body d x)))) (sym is) ∙ none) query)
+
+pub no_query_back : (src dst : Ext) (d : Datagram) → IsWhole d → is_query_at 0 (datagram_bytes (hairpinned src dst d)) ≡ false
+    → (d.header.fields.proto == 1) ≡ false
+no_query_back src dst d is none = query_of src dst d d.body is.body is.options none
 
 pub proto_back : (src dst : Ext) (d : Datagram) → u8_at 9 (datagram_bytes (hairpinned src dst d)) ≡ d.header.fields.proto
 proto_back src dst d = proto_read (hairpinned src dst d).header (transport_bytes (hairpinned src dst d).body)
@@ -229,6 +292,8 @@ pub wire_treated : (s : State) (bytes : List ℕ) (kind : EventKind) → is_acce
 wire_treated s bytes kind ok h = by_way (λ (t : Step). All IsOnWire t.state.leases) s bytes kind (record {
   rests = h;
   drops = λ cause. h;
+  answers = λ got cause e is. h;
+  relays = λ i is. h;
   delivers = λ d r by. h;
   forwards = λ got g by abroad. wire_grant (grant_out ok by) h;
   turns = λ got g row by turned. wire_grant (grant_out ok by) h;

@@ -1,7 +1,9 @@
 -- Words that the translator's contracts and those above it are written in.
 pub mod Arrivals
+pub mod Content
 pub mod Datagram
 pub mod Endpoints
+pub mod Errors
 pub mod Expiry
 pub mod Grant
 pub mod Inbound

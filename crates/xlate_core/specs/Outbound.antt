@@ -9,11 +9,13 @@ use Rattle.softwire.specs.declared.from_tunnel.DecapBad.{DecapBad}
 use Rattle.softwire.specs.declared.from_tunnel.DecapBad.TheVariants.{Packet, NotUs as NotOurs, NotTunnel as NoTunnel}
 use Rattle.softwire.specs.Tunnel.{Carried, decapsulated}
 use Rattle.wire_ip6.specs.Chain.{Behind, InnerPacket, InnerPiece, OtherHeader, CutShort}
-use Rattle.wire_ip4.specs.Grammar.{is_piece}
+use Rattle.wire_ip4.specs.Grammar.{Header, is_piece}
 use Rattle.xlate_core.specs.declared.grant.Sender.{Sender}
+use Rattle.xlate_core.specs.declared.packet.Content.{Content}
 use Rattle.xlate_core.specs.State.{is_ours}
 use Rattle.xlate_core.specs.Datagram.{Datagram}
-use Rattle.xlate_core.specs.Packet.{plain_ip4, has_route, datagram_of}
+use Rattle.xlate_core.specs.Content.{content_of}
+use Rattle.xlate_core.specs.Packet.{plain_ip4, has_route}
 use Rattle.xlate_core.specs.subscriber_table.Under.{subscriber_of}
 
 -- who sent a datagram, and the datagram
@@ -46,23 +48,27 @@ tunnelled c bytes = do
   let who : Sender = record { softwire = tunnel.softwire; owner = owner }
   Ok (who, inner)
 
--- The datagram in it, whether it goes to the public side or turns back to a subscriber: it isn't put together before, nor cut
--- for the public side.
-abbrev pub outward : Config → List ℕ → Result Datagram DropCause
-outward c inner = do
-  packet ← plain_ip4 inner
+-- who sent a packet, and the packet: its header, which has no options, and its payload
+pub record Received : Type 0 where
+  pub who : Sender
+  pub packet : Header × List ℕ
+
+-- a subscriber's packet, which isn't put together before
+abbrev pub received_from : Config → List ℕ → Result Received DropCause
+received_from c bytes = do
+  sent ← tunnelled c bytes
+  packet ← plain_ip4 sent.1
   require (not (is_piece packet.0)) NoProtocol
+  let got : Received = record { who = sent.0; packet = packet }
+  Ok got
+
+-- What it brings, whether that goes to the public side or turns back to a subscriber: it isn't cut for the public side.
+abbrev pub outward : Config → Header × List ℕ → Result Content DropCause
+outward c packet = do
   require (has_route packet.0) NoRoute
-  d ← datagram_of packet
-  let f = d.header.fields
+  content ← content_of packet
+  let f = packet.0.fields
   let fits = is_ours c f.dst || nat_le f.total c.public_mtu
   require (fits || not f.dont_cut) TooBig
   require fits NoProtocol
-  Ok d
-
-abbrev pub outbound_of : Config → List ℕ → Result Outbound DropCause
-outbound_of c bytes = do
-  sent ← tunnelled c bytes
-  d ← outward c sent.1
-  let got : Outbound = record { who = sent.0; datagram = d }
-  Ok got
+  Ok content

@@ -1,5 +1,5 @@
 -- What every packet is asked, whichever way it goes.
-use Rattle.std.specs.Prelude.{◌≡◌, ◌≤◌, ◌+◌, ℕ, ◌/◌, Bool, not, ◌&&◌, ◌==◌, nat_le, List, [], length, drop, true, false, Result, Ok, Err, if◌then◌else◌}
+use Rattle.std.specs.Prelude.{◌≡◌, ◌≤◌, ◌+◌, ℕ, ◌/◌, Bool, not, ◌&&◌, ◌||◌, ◌==◌, List, [], length, drop, true, false, Result, Ok, Err, if◌then◌else◌}
 use Rattle.aftr_base.specs.Attempt.{◌>>=◌, ◌>>◌, require, refused_as}
 use Rattle.aftr_base.specs.Value.{is_under4}
 use Rattle.aftr_base.specs.Plan.{is_routable_octet, tunnel_prefix}
@@ -7,14 +7,14 @@ use Rattle.aftr_base.specs.declared.value.Ip4.{Ip4}
 use Rattle.aftr_base.specs.declared.value.Proto.{Proto}
 use Rattle.aftr_base.specs.declared.value.Proto.TheVariants.{Tcp, Udp, Icmp}
 use Rattle.aftr_base.specs.declared.event.DropCause.{DropCause}
-use Rattle.aftr_base.specs.declared.event.DropCause.TheVariants.{BadPacket, Options, NoProtocol, TtlSpent}
-use Rattle.wire_ip4.specs.Grammar.{Header, packet_of as ip4_packet}
+use Rattle.aftr_base.specs.declared.event.DropCause.TheVariants.{BadPacket, Options, NoProtocol}
+use Rattle.wire_ip4.specs.Grammar.{Header, header_of, packet_of as ip4_packet}
 use Rattle.wire_icmp.specs.Grammar.{message_of}
 use Rattle.wire_icmp.specs.Quoted.{is_echo}
 use Rattle.wire_l4.specs.Grammar.{Transport, Query, header_len, transport_in, transport_of}
 use Rattle.wire_l4.specs.Places.{port_at}
 use Rattle.xlate_core.specs.declared.packet.Ends.{Ends}
-use Rattle.xlate_core.specs.Datagram.{Datagram, flags_of, is_answer}
+use Rattle.xlate_core.specs.Datagram.{flags_of, is_answer}
 
 -- an IPv4 packet without options, and its payload
 abbrev pub plain_ip4 : List ℕ → Result (Header × List ℕ) DropCause
@@ -22,6 +22,16 @@ plain_ip4 bytes = do
   packet ← refused_as (ip4_packet bytes) BadPacket
   require (length packet.0.options == 0) Options
   Ok packet
+
+-- the packet in bytes that are read as one
+abbrev pub packet_in : List ℕ → Header × List ℕ
+packet_in bytes = elim (ip4_packet bytes) [ Ok packet ↦ packet | Err bad ↦ (header_of bytes, []) ]
+
+-- they are, and the packet has no options
+pub record IsPlain (bytes : List ℕ) : Type 0 where
+  pub reads : ip4_packet bytes ≡ Ok (packet_in bytes)
+  pub bare : (packet_in bytes).0.options ≡ []
+  pub total : (packet_in bytes).0.fields.total ≡ 20 + length (packet_in bytes).1
 
 -- neither this network, nor loopback, nor multicast or reserved (RFC 1122 3.2.1.3)
 abbrev pub is_routable : Ip4 → Bool
@@ -48,14 +58,9 @@ transport_from Udp bytes = refused_as (transport_of Udp bytes) BadPacket
 transport_from Tcp bytes = refused_as (transport_of Tcp bytes) BadPacket
 transport_from Icmp bytes = query_from bytes
 
--- a datagram that may be forwarded once more
-abbrev pub datagram_of : Header × List ℕ → Result Datagram DropCause
-datagram_of packet = do
-  proto ← proto_from packet.0.fields.proto
-  require (nat_le 2 packet.0.fields.ttl) TtlSpent
-  transport ← transport_from proto packet.1
-  let d : Datagram = record { header = packet.0; body = transport }
-  Ok d
+-- the types of ICMP's errors: Destination Unreachable, Time Exceeded and Parameter Problem (RFC 792)
+abbrev pub is_fault : ℕ → Bool
+is_fault kind = kind == 3 || kind == 11 || kind == 12
 
 -- the ports and the control bits of a transport, and whether it is an answer to an echo request
 abbrev pub ends_of : Transport → Ends

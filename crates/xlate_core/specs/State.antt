@@ -1,7 +1,9 @@
 -- The state of the translator, as lists in order of making.
 use Rattle.std.specs.Prelude.{ℕ, ◌+◌, Bool, nat_lt, List, Option, max}
 use Rattle.std.specs.List.{list_any}
-use Rattle.aftr_base.specs.Value.{is_under4}
+use Rattle.aftr_base.specs.Value.{is_under4, moment}
+use Rattle.aftr_base.specs.declared.value.Side.{Side}
+use Rattle.aftr_base.specs.declared.value.Subscriber.{Subscriber}
 use Rattle.aftr_base.specs.declared.value.Ip4.{Ip4}
 use Rattle.aftr_base.specs.declared.row.LeaseRow.{LeaseRow}
 use Rattle.aftr_base.specs.declared.row.PlanRow.{PlanRow}
@@ -44,3 +46,7 @@ pub record Step : Type 0 where
 -- an address of the pool
 abbrev pub is_ours : Config → Ip4 → Bool
 is_ours c a = list_any (λ p. is_under4 p a) c.pool
+
+-- a packet that leaves, at the clock's moment
+abbrev pub item : State → Side → Option Subscriber → List ℕ → Item
+item s side owner bytes = record { side = side; at = moment s.clock; owner = owner; bytes = bytes }

@@ -1,12 +1,10 @@
 -- One record: the clock, what expires, the record's own treatment, and the horizon.
-use Rattle.std.specs.Prelude.{ℕ, Bool, ◌&&◌, ◌||◌, nat_lt, List, [], ◌∷◌, ◌++◌, length, Option, Some, None, is_some}
+use Rattle.std.specs.Prelude.{ℕ, Bool, ◌&&◌, ◌||◌, nat_lt, List, [], ◌∷◌, ◌++◌, length, Some, None, is_some}
 use Rattle.std.specs.Prelude.{true, false, Result, Ok, Err, if◌then◌else◌}
 use Rattle.std.specs.List.{list_any}
-use Rattle.aftr_base.specs.Attempt.{◌>>=◌, ◌>>◌, require}
+use Rattle.aftr_base.specs.Attempt.{◌>>◌, require}
 use Rattle.aftr_base.specs.Value.{moment}
-use Rattle.aftr_base.specs.declared.value.Side.{Side}
 use Rattle.aftr_base.specs.declared.value.Side.TheVariants.{Softwire as SoftwireSide, Public as PublicSide}
-use Rattle.aftr_base.specs.declared.value.Subscriber.{Subscriber}
 use Rattle.aftr_base.specs.declared.event.Event.{Event}
 use Rattle.aftr_base.specs.declared.event.EventKind.{EventKind}
 use Rattle.aftr_base.specs.declared.event.EventKind.TheVariants.{Softwire, Public, Tick, Change, Snapped, Foreign, Stray}
@@ -15,16 +13,22 @@ use Rattle.aftr_base.specs.declared.event.LogEvent.TheVariants.{Horizon}
 use Rattle.aftr_base.specs.declared.event.DropCause.{DropCause}
 use Rattle.aftr_base.specs.declared.event.DropCause.TheVariants.{Settling, Snapped as SnappedCause, BadPacket, NoProtocol}
 use Rattle.aftr_base.specs.declared.event.DropCause.TheVariants.{BadChange}
+use Rattle.wire_ip4.specs.Grammar.{Header}
 use Rattle.softwire.specs.Tunnel.{tunnel_packet}
+use Rattle.icmp_xlate.specs.declared.made.MadeError.{MadeError}
 use Rattle.nat_mapping.specs.Rows.{Mapping}
 use Rattle.xlate_core.specs.declared.step_out.Item.{Item}
 use Rattle.xlate_core.specs.declared.grant.Grant.{Grant}
 use Rattle.xlate_core.specs.declared.grant.Flow.{Flow}
 use Rattle.xlate_core.specs.Arrivals.{arrival_of, receiver_of, rows_inbound}
-use Rattle.xlate_core.specs.State.{State, Step, is_ours, is_past_horizon, reach_of}
+use Rattle.xlate_core.specs.Errors.{answer_bytes, error_about, error_from_public, error_from_subscriber}
+use Rattle.xlate_core.specs.State.{State, Step, is_ours, is_past_horizon, item, reach_of}
 use Rattle.xlate_core.specs.Datagram.{Datagram, datagram_bytes, flags_of, is_answer, place_on, key_of, hairpinned, inner_place, translated}
-use Rattle.xlate_core.specs.Outbound.{Outbound, outbound_of}
-use Rattle.xlate_core.specs.Inbound.{inbound_of}
+use Rattle.xlate_core.specs.declared.grant.Sender.{Sender}
+use Rattle.xlate_core.specs.declared.packet.Content.{Content}
+use Rattle.xlate_core.specs.declared.packet.Content.TheVariants.{Carries, Reports}
+use Rattle.xlate_core.specs.Outbound.{Outbound, Received, outward, received_from}
+use Rattle.xlate_core.specs.Inbound.{arrived, inward}
 use Rattle.xlate_core.specs.Grant.{granted, granted_only, after_grant, opening_events}
 use Rattle.xlate_core.specs.Expiry.{at_moment}
 
@@ -33,10 +37,6 @@ quiet s = record { state = s; items = []; closings = []; openings = []; drop = N
 
 abbrev pub dropped : State → DropCause → Step
 dropped s cause = record { state = s; items = []; closings = []; openings = []; drop = Some cause }
-
--- a packet that leaves, at the clock's moment
-abbrev pub item : State → Side → Option Subscriber → List ℕ → Item
-item s side owner bytes = record { side = side; at = moment s.clock; owner = owner; bytes = bytes }
 
 -- ---- outbound: from a subscriber to the public side
 
@@ -53,14 +53,6 @@ flow_of got = record {
 -- the place that the datagram's mapping has or gets, or the first reason against it
 abbrev pub mapped : State → Outbound → Result Grant DropCause
 mapped s got = granted s (flow_of got)
-
--- the datagram and its grant, or the first rule that refuses the record
-abbrev pub admitted_outbound : State → List ℕ → Result (Outbound × Grant) DropCause
-admitted_outbound s bytes = do
-  require (nat_lt s.floor s.clock) Settling
-  got ← outbound_of s.config bytes
-  g ← mapped s got
-  Ok (got, g)
 
 abbrev pub sent_out : State → Outbound → Grant → Step
 sent_out s got g = record {
@@ -117,18 +109,43 @@ turns_back s got = is_ours s.config got.datagram.header.fields.dst
 abbrev pub forwarding_step : State → Outbound → Grant → Step
 forwarding_step s got g = if turns_back s got then hairpin_step s got g else sent_out s got g
 
+-- ---- refusals that the sender is told of
+
+abbrev pub answered : State → Received → DropCause → MadeError → Step
+answered s got cause e = record (dropped s cause) { items = item s SoftwireSide None (answer_bytes s got e) ∷ [] }
+
+-- a subscriber's packet is dropped, and its sender told of it where an error tells of that
+abbrev pub refused : State → Received → DropCause → Step
+refused s got cause = elim (error_about s.config got.packet cause) [ None ↦ dropped s cause | Some e ↦ answered s got cause e ]
+
+-- a packet that leaves all as it is, or the rule that refuses it
+abbrev pub relayed : State → Item → Step
+relayed s i = record (quiet s) { items = i ∷ [] }
+
+abbrev pub relayed_if : State → Result Item DropCause → Step
+relayed_if s r = elim r [ Err cause ↦ dropped s cause | Ok i ↦ relayed s i ]
+
+-- ---- a whole packet of a subscriber
+
+abbrev pub sent_by : Sender → Datagram → Outbound
+sent_by who d = record { who = who; datagram = d }
+
+abbrev pub content_out : State → Received → Content → Step
+content_out s got (Carries d) =
+    let sent = sent_by got.who d in
+    elim (mapped s sent) [ Err cause ↦ refused s got cause | Ok g ↦ forwarding_step s sent g ]
+content_out s got (Reports e) = relayed_if s (error_from_subscriber s got.who e)
+
+abbrev pub from_subscriber : State → Received → Step
+from_subscriber s got = elim (outward s.config got.packet) [ Err cause ↦ refused s got cause | Ok content ↦ content_out s got content ]
+
+abbrev pub received_now : State → List ℕ → Result Received DropCause
+received_now s bytes = require (nat_lt s.floor s.clock) Settling >> received_from s.config bytes
+
 abbrev pub outbound_step : State → List ℕ → Step
-outbound_step s bytes = elim (admitted_outbound s bytes) [ Err cause ↦ dropped s cause | Ok found ↦ forwarding_step s found.0 found.1 ]
+outbound_step s bytes = elim (received_now s bytes) [ Err cause ↦ dropped s cause | Ok got ↦ from_subscriber s got ]
 
 -- ---- inbound: from the public side to the softwire of the mapping at the destination
-
--- the datagram and its mapping, or the first rule that refuses the record (RFC 4787 5)
-abbrev pub admitted_inbound : State → List ℕ → Result (Datagram × Mapping) DropCause
-admitted_inbound s bytes = do
-  require (nat_lt s.floor s.clock) Settling
-  d ← inbound_of s.config bytes
-  row ← receiver_of s (arrival_of d)
-  Ok (d, row)
 
 -- the datagram as it goes to the softwire of its mapping, with its TOS as the traffic class (RFC 2473 6.4)
 abbrev pub delivered_bytes : State → Datagram → Mapping → List ℕ
@@ -138,8 +155,18 @@ delivered_bytes s d row =
 abbrev pub sent_in : State → Datagram → Mapping → Step
 sent_in s d row = record (quiet (record s { rows = rows_inbound s (arrival_of d) })) { items = item s SoftwireSide None (delivered_bytes s d row) ∷ [] }
 
+abbrev pub content_in : State → Content → Step
+content_in s (Carries d) = elim (receiver_of s (arrival_of d)) [ Err cause ↦ dropped s cause | Ok row ↦ sent_in s d row ]
+content_in s (Reports e) = relayed_if s (error_from_public s e)
+
+abbrev pub from_public : State → Header × List ℕ → Step
+from_public s packet = elim (inward s.config packet) [ Err cause ↦ dropped s cause | Ok content ↦ content_in s content ]
+
+abbrev pub arrived_now : State → List ℕ → Result (Header × List ℕ) DropCause
+arrived_now s bytes = require (nat_lt s.floor s.clock) Settling >> arrived s.config bytes
+
 abbrev pub inbound_step : State → List ℕ → Step
-inbound_step s bytes = elim (admitted_inbound s bytes) [ Err cause ↦ dropped s cause | Ok found ↦ sent_in s found.0 found.1 ]
+inbound_step s bytes = elim (arrived_now s bytes) [ Err cause ↦ dropped s cause | Ok packet ↦ from_public s packet ]
 
 -- ---- a record
 

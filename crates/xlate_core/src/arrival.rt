@@ -2,14 +2,14 @@
 ghost use Rattle.std.specs.Prelude.{◌≡◌, ◌<◌, ◌≤◌, ◌+◌, nat_le, length, slice_get, true, Ok, Err, None, Some, IfNone, IfSome, IfOk, IfErr};
 ghost use Rattle.nat_mapping.specs.Rows.{Mapping, has_peer, mapping_of, row_at};
 ghost use Rattle.xlate_core.specs.Arrivals.{moved_peer, receiver_of, rows_inbound};
-ghost use Rattle.xlate_core.specs.Rows.{find_in};
+ghost use Rattle.xlate_core.specs.Rows.{find_in, find_out};
 ghost use Rattle.nat_filter.specs.Admits.{admits};
 ghost use Rattle.cfg_text.specs.Accepted.{by_address};
 
 use crate::endpoints::{inbound_peer, state_inbound};
 use crate::packet::require;
 use crate::translator::Core;
-use aftr_base::{DropCause, Ext, Ip4, Proto};
+use aftr_base::{DropCause, Ext, InnerKey, Ip4, Proto};
 use cfg_text::{Config, Filter};
 use nat_filter::admits;
 use nat_mapping::{Peer, Row, RowId};
@@ -25,8 +25,8 @@ pub(crate) struct Arrival {
     pub(crate) flags: u8,
 }
 
-// whether a packet of this many bytes fits with an IPv6 header before it
-fn fits_softwire(mtu: u16, total: u16) -> bool
+/// Whether a packet of this many bytes fits with an IPv6 header before it.
+pub(crate) fn fits_softwire(mtu: u16, total: u16) -> bool
     ensures { result ≡ nat_le (40 + total) mtu }
 {
     40 + u32::from(total) <= u32::from(mtu)
@@ -76,8 +76,8 @@ impl Core {
         Ok(id)
     }
 
-    // where the row of this place stands
-    fn find_in(&self, proto: Proto, ext: Ext) -> Option<RowId>
+    /// Where the row of this place stands.
+    pub(crate) fn find_in(&self, proto: Proto, ext: Ext) -> Option<RowId>
         ensures place { IfSome result (λ id. Some id ≡ row_at proto ext self.now.rows) }
         ensures row { IfSome result (λ id. (row : Mapping) × (slice_get self.now.rows id.0 ≡ Some row)
             × (find_in proto ext self.now.rows ≡ Some row)) }
@@ -85,6 +85,16 @@ impl Core {
         ensures none { IfNone result (find_in proto ext self.now.rows ≡ None) }
     {
         self.table.find_in(proto, ext)
+    }
+
+    /// Where the row of this key stands.
+    pub(crate) fn find_out(&self, key: &InnerKey) -> Option<RowId>
+        ensures row { IfSome result (λ id. (row : Mapping) × (slice_get self.now.rows id.0 ≡ Some row)
+            × (find_out key.now self.now.rows ≡ Some row)) }
+        ensures live { IfSome result (λ id. id.0 < length self.now.rows) }
+        ensures none { IfNone result (find_out key.now self.now.rows ≡ None) }
+    {
+        self.table.find_out(key)
     }
 
     /// Moves the state of the TCP connection that a segment is of, in the row that stands at its destination.

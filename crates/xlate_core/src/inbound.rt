@@ -1,14 +1,16 @@
 //! From the public side to the softwire of a mapping (RFC 6333 6.2).
-ghost use Rattle.std.specs.Prelude.{◌≡◌, ◌<◌, ◌≤◌, ◌+◌, length, slice_get, Ok, Err, None, Some, IfOk, IfErr, OnOk};
+ghost use Rattle.std.specs.Prelude.{◌≡◌, ◌<◌, ◌≤◌, ◌+◌, [], length, slice_get, Err, None, Ok, Some, IfOk, OnOk};
 ghost use Rattle.softwire.specs.Tunnel.{carrier};
 ghost use Rattle.nat_mapping.specs.Rows.{Mapping, row_at};
 ghost use Rattle.xlate_core.specs.Arrivals.{arrival_of};
 ghost use Rattle.xlate_core.specs.Datagram.{inner_place};
-ghost use Rattle.xlate_core.specs.Inbound.{inbound_of};
-ghost use Rattle.xlate_core.specs.Step.{admitted_inbound, delivered_bytes, inbound_step, sent_in, with_horizon};
+ghost use Rattle.xlate_core.specs.Inbound.{inward};
+ghost use Rattle.xlate_core.specs.Step.{arrived_now, content_in, delivered_bytes, from_public, inbound_step, sent_in, with_horizon};
 ghost use Rattle.xlate_core.specs.Stepped.{HasStepped};
+ghost use Rattle.xlate_core.specs.declared.packet.Content.TheVariants.{Carries};
 
-use crate::packet::{Datagram, datagram_of, is_ours, is_routable, plain_ip4, require};
+use crate::packet::{Content, Datagram, content_of, is_ours, is_routable, require};
+use crate::received::{Packet, receive_public};
 use crate::step_out::StepOut;
 use crate::translator::Core;
 use aftr_base::{DropCause, Ext, InnerKey, Ip6, NoMemory, Packets, Side};
@@ -16,20 +18,20 @@ use cfg_text::Config;
 use nat_mapping::RowId;
 use softwire::encap;
 use std::alloc::Global;
+use wire_ip4::Ip4View;
 
-// a datagram to the pool from a routed address outside it
-fn inbound_of<'a>(config: &Config, bytes: &'a [u8]) -> Result<Datagram<'a>, DropCause>
-    ensures { result ≡ inbound_of config.now bytes.now }
+// what a packet brings, from a routed address outside the pool
+fn inward<'a>(config: &Config, packet: Ip4View<'a>) -> Result<Content<'a>, DropCause>
+    requires plain { packet.0.options ≡ [] }
+    requires total { packet.0.fields.total ≡ 20 + length packet.1 }
+    ensures { result ≡ inward config.now packet.entry }
 {
-    let packet = plain_ip4(bytes)?;
-    let fields = packet.fields();
-    require(is_ours(config, fields.dst), DropCause::NotUs)?;
-    require(!fields.is_piece(), DropCause::NoProtocol)?;
+    let src = packet.fields().src;
     require(
-        is_routable(fields.src) && !is_ours(config, fields.src),
+        is_routable(src) && !is_ours(config, src),
         DropCause::NoRoute,
     )?;
-    datagram_of(packet)
+    content_of(packet)
 }
 
 /// The place of a mapping behind its softwire.
@@ -51,7 +53,8 @@ struct Admitted<'a> {
 
 impl Core {
     /// A record from the public side: its datagram goes to the softwire of the mapping at its destination, and moves the
-    /// state of the TCP connection that it is of. The answer is the first rule that refuses it.
+    /// state of the TCP connection that it is of; its error goes to that of the mapping that sent what it quotes. The answer
+    /// is the first rule that refuses it.
     pub(crate) fn step_inbound(
         &mut self,
         alloc: Global,
@@ -62,30 +65,58 @@ impl Core {
             (λ cause. HasStepped
             (with_horizon (inbound_step self.old bytes.now)) out.old self.new out.new cause) }
     {
-        match self.admit_inbound(bytes) {
+        match self.arrived_now(bytes) {
             Err(cause) => Ok(Some(cause)),
-            Ok(admitted) => {
+            Ok(packet) => self.from_public(alloc, &packet, out),
+        }
+    }
+
+    // the packet of a record that doesn't settle
+    fn arrived_now<'a>(&self, bytes: &'a [u8]) -> Result<Packet<'a>, DropCause>
+        ensures { result ≡ arrived_now self.now bytes.now }
+    {
+        require(self.floor.0 < self.clock.0, DropCause::Settling)?;
+        receive_public(&self.config, bytes)
+    }
+
+    // a whole packet of the public side
+    fn from_public(
+        &mut self,
+        alloc: Global,
+        packet: &Packet<'_>,
+        out: &mut StepOut,
+    ) -> Result<Option<DropCause>, NoMemory>
+        ensures { IfOk result
+            (λ cause. HasStepped
+            (with_horizon (from_public self.old packet.now)) out.old self.new out.new cause) }
+    {
+        match inward(&self.config, packet.view()) {
+            Err(cause) => Ok(Some(cause)),
+            Ok(Content::Carries(datagram)) => self.deliver(alloc, datagram, out),
+            Ok(Content::Reports(error)) => self.relay_from_public(alloc, &error, out),
+        }
+    }
+
+    // its datagram, where a mapping receives it
+    fn deliver(
+        &mut self,
+        alloc: Global,
+        datagram: Datagram<'_>,
+        out: &mut StepOut,
+    ) -> Result<Option<DropCause>, NoMemory>
+        ensures { IfOk result
+            (λ cause. HasStepped
+            (with_horizon (content_in self.old (Carries datagram.entry)))
+            out.old self.new out.new cause) }
+    {
+        match self.receiver_of(&datagram.arrival()) {
+            Err(cause) => Ok(Some(cause)),
+            Ok(row) => {
+                let admitted = Admitted { datagram, row };
                 self.send_in(alloc, &admitted, out)?;
                 Ok(None)
             }
         }
-    }
-
-    // the rules in their order
-    fn admit_inbound<'a>(&self, bytes: &'a [u8]) -> Result<Admitted<'a>, DropCause>
-        ensures admitted { IfOk result (λ a. (row : Mapping) × (slice_get self.now.rows a.row.0 ≡ Some row)
-            × (admitted_inbound self.now bytes.now ≡ Ok (a.datagram, row))) }
-        ensures place { IfOk result (λ a. (let to = arrival_of a.datagram in
-            Some a.row ≡ row_at to.proto to.to self.now.rows)) }
-        ensures live { IfOk result (λ a. a.row.0 < length self.now.rows) }
-        ensures fits { IfOk result
-            (λ a. 40 + a.datagram.header.fields.total ≤ self.now.config.softwire_mtu) }
-        ensures refusal { IfErr result (λ cause. admitted_inbound self.now bytes.now ≡ Err cause) }
-    {
-        require(self.floor.0 < self.clock.0, DropCause::Settling)?;
-        let datagram = inbound_of(&self.config, bytes)?;
-        let id = self.receiver_of(&datagram.arrival())?;
-        Ok(Admitted { datagram, row: id })
     }
 
     // what an admitted datagram does

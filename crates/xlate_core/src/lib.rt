@@ -3,6 +3,7 @@
 
 mod arrival;
 mod endpoints;
+mod errors;
 mod expiry;
 mod grant;
 mod hairpin;
@@ -11,6 +12,7 @@ mod inbound;
 mod laws;
 mod outbound;
 mod packet;
+mod received;
 mod start;
 mod step_out;
 mod subscriber_table;

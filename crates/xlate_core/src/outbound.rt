@@ -1,25 +1,25 @@
 //! From a subscriber to the public side (RFC 6333 5, 6; RFC 2473 3.3).
-ghost use Rattle.std.specs.Prelude.{◌≡◌, Ok, Err, None, IfOk, IfErr, OnOk};
-ghost use Rattle.xlate_core.specs.Datagram.{key_of};
-ghost use Rattle.xlate_core.specs.Outbound.{drop_for, carried_to, inner_of, tunnelled, outward, outbound_of};
+ghost use Rattle.std.specs.Prelude.{◌≡◌, ◌+◌, [], length, Ok, Err, None, IfOk, IfErr, OnOk};
 ghost use Rattle.nat_mapping.specs.Rows.{row_of};
-ghost use Rattle.xlate_core.specs.Step.{admitted_outbound, flow_of, forwarding_step, mapped, outbound_step, sent_out, with_horizon};
+ghost use Rattle.xlate_core.specs.Datagram.{key_of};
+ghost use Rattle.xlate_core.specs.Outbound.{outward};
 ghost use Rattle.xlate_core.specs.State.{is_ours};
+ghost use Rattle.xlate_core.specs.Step.{content_out, flow_of, forwarding_step, from_subscriber, mapped, outbound_step, received_now};
+ghost use Rattle.xlate_core.specs.Step.{sent_by, sent_out, with_horizon};
 ghost use Rattle.xlate_core.specs.Stepped.{HasStepped};
-ghost use Rattle.wire_ip6.specs.Chain.{chain_in};
+ghost use Rattle.xlate_core.specs.declared.packet.Content.TheVariants.{Carries};
 
 use crate::grant::{Flow, Grant, Sender};
-use crate::packet::{Datagram, datagram_of, has_route, is_ours, plain_ip4, require};
+use crate::packet::{Content, Datagram, content_of, has_route, is_ours, require};
+use crate::received::{Received, receive};
 use crate::step_out::StepOut;
-use crate::subscriber_table;
 use crate::translator::Core;
 use aftr_base::{DropCause, InnerKey, NoMemory, Side};
 use cfg_text::Config;
 use nat_mapping::RowId;
-use softwire::{DecapBad, Tunnel, decap};
 use std::alloc::Global;
 use std::marker::Model;
-use wire_ip6::Chain;
+use wire_ip4::Ip4View;
 
 /// Who sent a datagram, and the datagram.
 #[derive(Debug, Drop)]
@@ -36,80 +36,19 @@ impl<'a> Model for Outbound<'a> {
     ghost view = { λ o. record { who = o.who; datagram = o.datagram } };
 }
 
-// why no softwire packet for this end of it is dropped
-fn drop_for(bad: DecapBad) -> DropCause
-    ensures { result ≡ drop_for bad }
+// what a packet brings, whether that goes to the public side or turns back to a subscriber
+fn outward<'a>(config: &Config, packet: Ip4View<'a>) -> Result<Content<'a>, DropCause>
+    requires plain { packet.0.options ≡ [] }
+    requires total { packet.0.fields.total ≡ 20 + length packet.1 }
+    ensures { result ≡ outward config.now packet.entry }
 {
-    match bad {
-        DecapBad::Packet => DropCause::BadPacket,
-        DecapBad::NotUs => DropCause::NotUs,
-        DecapBad::NotTunnel => DropCause::NotTunnel,
-    }
-}
-
-// what the packet in these bytes carries to this end of a softwire
-fn carried_to<'a>(config: &Config, bytes: &'a [u8]) -> Result<Tunnel<'a>, DropCause>
-    ensures carried { IfOk result (λ t. carried_to config.now bytes.now
-        ≡ Ok record { softwire = t.softwire; behind = chain_in t.chain }) }
-    ensures refusal { IfErr result (λ cause. carried_to config.now bytes.now ≡ Err cause) }
-{
-    match decap(bytes, config.aftr) {
-        Ok(tunnel) => Ok(tunnel),
-        Err(bad) => Err(drop_for(bad)),
-    }
-}
-
-// an IPv4 packet that came whole
-fn inner_of(chain: Chain<'_>) -> Result<&[u8], DropCause>
-    ensures inner { IfOk result (λ inner. inner_of (chain_in chain.entry) ≡ Ok inner.now) }
-    ensures refusal { IfErr result (λ cause. inner_of (chain_in chain.entry) ≡ Err cause) }
-{
-    match chain {
-        Chain::Inner(inner) => Ok(inner),
-        Chain::Piece(_, _) => Err(DropCause::NoProtocol),
-        Chain::NotTunnel => Err(DropCause::NotTunnel),
-        Chain::Broken => Err(DropCause::BadPacket),
-    }
-}
-
-// the inner packet of a subscriber
-fn tunnelled<'a>(config: &Config, bytes: &'a [u8]) -> Result<(Sender, &'a [u8]), DropCause>
-    ensures sent { IfOk result (λ sent. tunnelled config.now bytes.now ≡ Ok (sent.0, sent.1.now)) }
-    ensures refusal { IfErr result (λ cause. tunnelled config.now bytes.now ≡ Err cause) }
-{
-    let tunnel = carried_to(config, bytes)?;
-    let Some(owner) = subscriber_table::of(config, tunnel.softwire) else {
-        return Err(DropCause::UnknownSubscriber);
-    };
-    let inner = inner_of(tunnel.chain)?;
-    let who = Sender {
-        softwire: tunnel.softwire,
-        owner,
-    };
-    Ok((who, inner))
-}
-
-// the datagram in it, whether it goes to the public side or turns back to a subscriber
-fn outward<'a>(config: &Config, inner: &'a [u8]) -> Result<Datagram<'a>, DropCause>
-    ensures { result ≡ outward config.now inner.now }
-{
-    let packet = plain_ip4(inner)?;
-    require(!packet.fields().is_piece(), DropCause::NoProtocol)?;
     require(has_route(&packet), DropCause::NoRoute)?;
-    let datagram = datagram_of(packet)?;
-    let fields = datagram.fields();
+    let fields = packet.fields();
+    let content = content_of(packet)?;
     let fits = is_ours(config, fields.dst) || fields.total <= config.public_mtu;
     require(fits || !fields.dont_cut, DropCause::TooBig)?;
     require(fits, DropCause::NoProtocol)?;
-    Ok(datagram)
-}
-
-fn outbound_of<'a>(config: &Config, bytes: &'a [u8]) -> Result<Outbound<'a>, DropCause>
-    ensures { result ≡ outbound_of config.now bytes.now }
-{
-    let (who, inner) = tunnelled(config, bytes)?;
-    let datagram = outward(config, inner)?;
-    Ok(Outbound { who, datagram })
+    Ok(content)
 }
 
 impl<'a> Outbound<'a> {
@@ -156,7 +95,8 @@ pub(crate) struct Admitted<'a> {
 
 impl Core {
     /// A record from the softwire side: its datagram goes out from the place of its mapping, which is made or refreshed, to
-    /// the public side or back to a subscriber. The answer is the first rule that refuses it.
+    /// the public side or back to a subscriber, and its error the same way, which uses no mapping. The answer is the first
+    /// rule that refuses it; where an error tells of that, one goes to the sender.
     pub(crate) fn step_outbound(
         &mut self,
         alloc: Global,
@@ -167,10 +107,71 @@ impl Core {
             (λ cause. HasStepped
             (with_horizon (outbound_step self.old bytes.now)) out.old self.new out.new cause) }
     {
-        match self.admit_outbound(bytes) {
+        match self.received_now(bytes) {
             Err(cause) => Ok(Some(cause)),
+            Ok(got) => self.from_subscriber(alloc, &got, out),
+        }
+    }
+
+    // the packet of a record that doesn't settle
+    fn received_now<'a>(&self, bytes: &'a [u8]) -> Result<Received<'a>, DropCause>
+        ensures { result ≡ received_now self.now bytes.now }
+    {
+        require(self.floor.0 < self.clock.0, DropCause::Settling)?;
+        receive(&self.config, bytes)
+    }
+
+    // a whole packet of a subscriber
+    fn from_subscriber(
+        &mut self,
+        alloc: Global,
+        got: &Received<'_>,
+        out: &mut StepOut,
+    ) -> Result<Option<DropCause>, NoMemory>
+        ensures { IfOk result
+            (λ cause. HasStepped
+            (with_horizon (from_subscriber self.old got.now)) out.old self.new out.new cause) }
+    {
+        match outward(&self.config, got.packet.view()) {
+            Err(cause) => self.refuse(alloc, got, cause, out),
+            Ok(Content::Carries(datagram)) => self.send_datagram(alloc, got, datagram, out),
+            Ok(Content::Reports(error)) => self.relay_from_subscriber(alloc, got.who, &error, out),
+        }
+    }
+
+    // its datagram, where that has a place or gets one
+    fn send_datagram(
+        &mut self,
+        alloc: Global,
+        got: &Received<'_>,
+        datagram: Datagram<'_>,
+        out: &mut StepOut,
+    ) -> Result<Option<DropCause>, NoMemory>
+        ensures { IfOk result
+            (λ cause. HasStepped
+            (with_horizon (content_out self.old got.now (Carries datagram.entry)))
+            out.old self.new out.new cause) }
+    {
+        match self.admit(got.who, datagram) {
+            Err(cause) => self.refuse(alloc, got, cause, out),
             Ok(admitted) => self.forward(alloc, &admitted, out),
         }
+    }
+
+    // the place that a datagram's mapping has or gets
+    fn admit<'a>(&mut self, who: Sender, datagram: Datagram<'a>) -> Result<Admitted<'a>, DropCause>
+        ensures same { self.new ≡ self.old }
+        ensures got { IfOk result (λ a. a.got ≡ sent_by who datagram.entry) }
+        ensures row { IfOk result
+            (λ a. a.row ≡ row_of (key_of a.got.who.softwire a.got.datagram) self.old.rows) }
+        ensures grant { IfOk result (λ a. mapped self.old a.got ≡ Ok a.grant) }
+        ensures refusal { IfErr result
+            (λ cause. mapped self.old (sent_by who datagram.entry) ≡ Err cause) }
+    {
+        let got = Outbound { who, datagram };
+        let flow = got.flow();
+        let (row, grant) = self.granted(&flow)?;
+        Ok(Admitted { got, row, grant })
     }
 
     // sends an admitted datagram on, if a subscriber that it turns back to receives it
@@ -192,23 +193,6 @@ impl Core {
         }
         self.send_out(alloc, admitted, out)?;
         Ok(None)
-    }
-
-    // the rules in their order
-    fn admit_outbound<'a>(&mut self, bytes: &'a [u8]) -> Result<Admitted<'a>, DropCause>
-        ensures same { self.new ≡ self.old }
-        ensures admitted { IfOk result
-            (λ a. admitted_outbound self.old bytes.now ≡ Ok (a.got, a.grant)) }
-        ensures row { IfOk result
-            (λ a. a.row ≡ row_of (key_of a.got.who.softwire a.got.datagram) self.old.rows) }
-        ensures grant { IfOk result (λ a. mapped self.old a.got ≡ Ok a.grant) }
-        ensures refusal { IfErr result (λ cause. admitted_outbound self.old bytes.now ≡ Err cause) }
-    {
-        require(self.floor.0 < self.clock.0, DropCause::Settling)?;
-        let got = outbound_of(&self.config, bytes)?;
-        let flow = got.flow();
-        let (row, grant) = self.granted(&flow)?;
-        Ok(Admitted { got, row, grant })
     }
 
     // what an admitted datagram does

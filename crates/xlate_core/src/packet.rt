@@ -6,19 +6,21 @@ ghost use Rattle.aftr_base.specs.Plan.{tunnel_prefix};
 ghost use Rattle.aftr_base.specs.Value.{is_under4};
 ghost use Rattle.aftr_base.specs.declared.event.DropCause.TheVariants.{BadPacket, NoProtocol};
 ghost use Rattle.aftr_base.specs.declared.value.Proto.TheVariants.{Icmp, Tcp, Udp};
-ghost use Rattle.wire_icmp.specs.Grammar.{kind_of};
+ghost use Rattle.wire_icmp.specs.Grammar.{kind_of, message_of};
 ghost use Rattle.wire_icmp.specs.Quoted.{is_echo};
-ghost use Rattle.wire_l4.specs.Grammar.{Transport, header_len, transport_bytes, transport_in, transport_of};
+ghost use Rattle.wire_l4.specs.Grammar.{Echo, Transport, header_len, transport_bytes, transport_in, transport_of};
 ghost use Rattle.wire_l4.specs.Places.{port_at, proto_of, replaced};
 ghost use Rattle.xlate_core.specs.Arrivals.{arrival_of};
 ghost use Rattle.xlate_core.specs.Datagram.{datagram_bytes, flags_of, hairpinned, is_answer, place_on, translated};
-ghost use Rattle.xlate_core.specs.Packet.{datagram_of, ends_of, has_route, is_routable, plain_ip4, proto_from, query_from, transport_behind, transport_from};
+ghost use Rattle.xlate_core.specs.Content.{content_of, datagram_content, error_content, is_report};
+ghost use Rattle.xlate_core.specs.Packet.{ends_of, has_route, is_routable, plain_ip4, proto_from, query_from, transport_behind, transport_from};
 ghost use Rattle.xlate_core.specs.State.{is_ours};
 
 use crate::arrival::Arrival;
 use aftr_base::{DropCause, Ext, Ip4, NoMemory, Prefix4, Proto, u16_in};
 use arrayvec::ArrayVec;
 use cfg_text::Config;
+use icmp_xlate::IcmpError;
 use std::alloc::Global;
 use std::marker::Model;
 use wire_icmp::{IcmpKind, IcmpView};
@@ -114,17 +116,85 @@ impl<'a> Model for Datagram<'a> {
     ghost invariant = { λ d. IsReady d.packet.0 d.packet.1 d.proto d.ends };
 }
 
-/// The datagram of a plain packet. The cause is `NoProtocol` for another protocol than UDP, TCP and ICMP, `TtlSpent` where it
-/// may take no further hop, `BadPacket` where its lengths don't fit or an ICMP message doesn't bear its checksum, and
-/// `NoProtocol` where that is no echo message.
-pub(crate) fn datagram_of(packet: Ip4View<'_>) -> Result<Datagram<'_>, DropCause>
+/// What a packet brings: a datagram, or an ICMP error about one.
+#[derive(Debug, Drop)]
+pub(crate) enum Content<'a> {
+    Carries(Datagram<'a>),
+    Reports(IcmpError<'a>),
+}
+
+/// What a plain packet brings. The cause is `NoProtocol` for another protocol than UDP, TCP and ICMP, `TtlSpent` where it may
+/// take no further hop, `BadPacket` where its lengths don't fit, an ICMP message doesn't bear its checksum or what an error
+/// quotes can't be translated, and `NoProtocol` where an ICMP message is neither of echo nor an error.
+pub(crate) fn content_of(packet: Ip4View<'_>) -> Result<Content<'_>, DropCause>
     requires plain { packet.0.options ≡ [] }
     requires total { packet.0.fields.total ≡ 20 + length packet.1 }
-    ensures { result ≡ datagram_of packet.entry }
+    ensures { result ≡ content_of packet.entry }
 {
     let fields = packet.fields();
     let proto = proto_from(fields.proto)?;
     require(2 <= fields.ttl, DropCause::TtlSpent)?;
+    if is_report(proto, packet.payload()) {
+        error_content(packet)
+    } else {
+        datagram_content(proto, packet)
+    }
+}
+
+// whether it is an ICMP error
+fn is_report(proto: Proto, payload: &[u8]) -> bool
+    ensures value { result ≡ is_report proto payload.now }
+    ensures message { result ≡ true → (m : Echo) × (message_of payload.now ≡ Ok m) }
+{
+    match proto {
+        Proto::Icmp => is_fault(payload),
+        Proto::Udp | Proto::Tcp => false,
+    }
+}
+
+fn is_fault(payload: &[u8]) -> bool
+    ensures value { result ≡ is_report Icmp payload.now }
+    ensures message { result ≡ true → (m : Echo) × (message_of payload.now ≡ Ok m) }
+{
+    match IcmpView::read(payload) {
+        Ok(message) => message.kind() == IcmpKind::Fault,
+        Err(_) => false,
+    }
+}
+
+fn error_content(packet: Ip4View<'_>) -> Result<Content<'_>, DropCause>
+    requires plain { packet.0.options ≡ [] }
+    requires total { packet.0.fields.total ≡ 20 + length packet.1 }
+    requires alive { 2 ≤ packet.0.fields.ttl }
+    requires message { (m : Echo) × (message_of packet.1 ≡ Ok m) }
+    ensures { result ≡ error_content packet.entry }
+{
+    match IcmpError::read(packet) {
+        Some(error) => Ok(Content::Reports(error)),
+        None => Err(DropCause::BadPacket),
+    }
+}
+
+fn datagram_content(proto: Proto, packet: Ip4View<'_>) -> Result<Content<'_>, DropCause>
+    requires plain { packet.0.options ≡ [] }
+    requires total { packet.0.fields.total ≡ 20 + length packet.1 }
+    requires short { packet.0.fields.total ≤ 65535 }
+    requires alive { 2 ≤ packet.0.fields.ttl }
+    ensures { result ≡ datagram_content proto packet.entry }
+{
+    let datagram = datagram_in(proto, packet)?;
+    Ok(Content::Carries(datagram))
+}
+
+fn datagram_in(proto: Proto, packet: Ip4View<'_>) -> Result<Datagram<'_>, DropCause>
+    requires plain { packet.0.options ≡ [] }
+    requires total { packet.0.fields.total ≡ 20 + length packet.1 }
+    requires short { packet.0.fields.total ≤ 65535 }
+    requires alive { 2 ≤ packet.0.fields.ttl }
+    ensures header { IfOk result (λ d. d.header ≡ packet.entry.0) }
+    ensures body { IfOk result (λ d. transport_from proto packet.entry.1 ≡ Ok d.body) }
+    ensures refusal { IfErr result (λ cause. transport_from proto packet.entry.1 ≡ Err cause) }
+{
     let ends = ends_in(proto, packet.payload())?;
     Ok(Datagram {
         packet,

@@ -1,7 +1,8 @@
 //! The translator: events to packets, one record after another.
 ghost use Rattle.std.specs.Prelude.{◌≡◌, ◌≤◌, IfOk};
 ghost use Rattle.aftr_base.specs.Limits.{moment_limit};
-ghost use Rattle.xlate_core.specs.Step.{dropped, item, refused_as_kind, step, treatment, with_horizon};
+ghost use Rattle.xlate_core.specs.State.{item};
+ghost use Rattle.xlate_core.specs.Step.{dropped, refused_as_kind, step, treatment, with_horizon};
 ghost use Rattle.xlate_core.specs.Stepped.{HasStepped};
 
 use crate::step_out::{Item, StepOut};

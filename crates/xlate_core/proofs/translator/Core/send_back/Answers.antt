@@ -11,7 +11,8 @@ use Rattle.xlate_core.specs.Arrivals.{arrival_of, rows_inbound}
 use Rattle.xlate_core.specs.Datagram.{Datagram, translated}
 use Rattle.xlate_core.specs.Grant.{after_grant, granted, granted_only}
 use Rattle.xlate_core.specs.State.{State}
-use Rattle.xlate_core.specs.Step.{flow_of, hairpin_bytes, item, turned}
+use Rattle.xlate_core.specs.State.{item}
+use Rattle.xlate_core.specs.Step.{flow_of, hairpin_bytes, turned}
 use Rattle.xlate_core.proofs.Sending.{turned_so}
 use Rattle.xlate_core.proofs.translator.Core.send_back.Goals as goal
 

@@ -7,7 +7,8 @@ use Rattle.xlate_core.specs.declared.step_out.Item.{Item}
 use Rattle.xlate_core.specs.declared.arrival.Arrival.{Arrival}
 use Rattle.xlate_core.specs.Arrivals.{rows_inbound}
 use Rattle.xlate_core.specs.State.{State}
-use Rattle.xlate_core.specs.Step.{delivered_bytes, item}
+use Rattle.xlate_core.specs.State.{item}
+use Rattle.xlate_core.specs.Step.{delivered_bytes}
 use Rattle.xlate_core.proofs.Sending.{one_short}
 use Rattle.xlate_core.proofs.translator.Core.send_in.Goals as goal
 
