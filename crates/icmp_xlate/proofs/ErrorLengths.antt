@@ -11,9 +11,9 @@ use Rattle.aftr_base.specs.declared.value.Ext.{Ext}
 use Rattle.aftr_base.specs.declared.value.Proto.{Proto}
 use Rattle.aftr_base.specs.declared.value.Proto.TheVariants.{Tcp, Udp}
 use Rattle.wire_ip4.specs.declared.fields.Ip4Bad.{Ip4Bad}
-use Rattle.wire_ip4.specs.declared.fields.Ip4Bad.TheVariants.{Short, Version, HeaderLen, TotalLen, Sum as Unsound}
-use Rattle.wire_ip4.specs.Grammar.{Header, header_bytes, header_of, front_of, len_of, packet_of}
-use Rattle.wire_ip4.proofs.Attempts.{both, followed, passed}
+use Rattle.wire_ip4.specs.declared.fields.Ip4Bad.TheVariants.{Short, Version, HeaderLen}
+use Rattle.wire_ip4.specs.Grammar.{Header, header_bytes, header_of, front_of, len_of}
+use Rattle.wire_ip4.proofs.Attempts.{both, passed}
 use Rattle.wire_ip4.proofs.HeaderRead.{length_written}
 use Rattle.wire_l4.specs.Grammar.{Segment, Echo, Transport, Ports, Query, echo_bytes, echo_of, segment_at, segment_bytes, sum_bytes, transport_bytes}
 use Rattle.wire_l4.specs.Places.{replaced, segment_sum}

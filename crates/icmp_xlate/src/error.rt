@@ -58,9 +58,12 @@ impl<'a> IcmpError<'a> {
         })
     }
 
-    /// The fields of its header.
+    /// The fields of its header, which has no options, and whose TTL is at least 2.
     pub fn fields(&self) -> Ip4Fields
-        ensures { result ≡ self.now.header.fields }
+        ensures value { result ≡ self.now.header.fields }
+        ensures bare { self.now.header.options ≡ [] }
+        ensures alive { 2 ≤ self.now.header.fields.ttl }
+        ensures whole { self.now.header.fields.total ≡ 20 + length (report_bytes self.now.report) }
     {
         self.fields
     }

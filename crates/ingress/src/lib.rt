@@ -15,7 +15,7 @@ mod tests;
 
 pub use laws::arrivals_are_whole;
 pub use packet::Packet;
-pub use public_side::from_public;
+pub use public_side::{from_public, is_ours};
 pub use received::{Received, Sender};
 pub use refusal::Refusal;
 pub use softwire_side::from_softwire;

@@ -52,8 +52,8 @@ fn addressed_to_us<'a>(config: &Config, bytes: &'a [u8]) -> Result<Plain<'a>, Dr
     }
 }
 
-// whether an address is one of the pool
-fn is_ours(config: &Config, a: Ip4) -> bool
+/// Whether an address is one of the pool. It takes time linear in the number of the pool's prefixes.
+pub fn is_ours(config: &Config, a: Ip4) -> bool
     ensures { result ≡ is_ours config.now a }
 {
     is_under_any(config.pool.as_slice(), a)

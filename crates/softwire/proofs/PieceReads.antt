@@ -83,7 +83,7 @@ pub pieces_read_back : (f : Ip4Fields) → AreFields f → (n : ℕ) → 0 < n �
     → PiecesReadBack f n payload
 pieces_read_back f are n some payload short i within = piece_reads_back f are n some payload short i within
 
-behind_header : (h : Header) (rest : List ℕ) → h.options ≡ [] → drop 20 (header_bytes h ++ rest) ≡ rest
+pub behind_header : (h : Header) (rest : List ℕ) → h.options ≡ [] → drop 20 (header_bytes h ++ rest) ≡ rest
 unfolding be16 be32
 behind_header h rest bare = ap (λ (l : List ℕ). l ++ rest) bare
 

@@ -1,6 +1,6 @@
 //! Cutting IPv4 packets that are longer than a link takes (RFC 791 section 3.2).
 ghost use Rattle.std.specs.Prelude.{◌≡◌, ◌≤◌, ◌<◌, ◌+◌, ◌*◌, ◌/◌, ◌++◌, ◌∷◌, [], List, ℕ, false, Ok, IfOk, OnErr, OnOk, length, take, drop};
-ghost use Rattle.wire_ip4.specs.Grammar.{Header, header_bytes, header_with, is_piece, packet_of};
+ghost use Rattle.wire_ip4.specs.Grammar.{AreFields, Header, header_bytes, header_with, is_piece, packet_of};
 ghost use Rattle.softwire.specs.Cut.{JoinsAgain, cut_packet, ip4_pieces, piece_fields, piece_of, room_of};
 ghost use Rattle.softwire.specs.Reading.{CutTells};
 
@@ -29,13 +29,58 @@ pub fn cut4(datagram: &[u8], mtu: u16, out: &mut Packets) -> Result<(), NoMemory
     let Ok(packet) = Ip4View::read(datagram) else {
         unreachable!()
     };
+    let whole = front_of(datagram, 20 + packet.payload().len());
+    add_cut(&packet.fields(), whole, mtu, out)
+}
+
+/// Adds an IPv4 packet that has just been written, with these fields and no options, cut where it is
+/// longer than `mtu` bytes: nothing of it is read back. Each piece but the last carries as many bytes as
+/// fit in units of 8, and each has a header and a checksum of its own; a packet that fits goes as it
+/// stands. Whether it may be cut isn't asked. `NoMemory` changes nothing.
+pub fn cut_with(
+    fields: &Ip4Fields,
+    packet: &[u8],
+    mtu: u16,
+    out: &mut Packets,
+) -> Result<(), NoMemory>
+    requires written { (payload : List ℕ)
+        × (packet.now ≡ header_bytes (header_with fields.now) ++ payload) }
+    requires short { length packet.now ≤ 65535 }
+    requires mtu { 576 ≤ mtu }
+    ensures ok { OnOk result ((payload : List ℕ)
+        → packet.now ≡ header_bytes (header_with fields.now) ++ payload
+        → out.new ≡ out.old ++ cut_packet mtu (header_with fields.now) payload) }
+    ensures tells { (payload : List ℕ)
+        → packet.now ≡ header_bytes (header_with fields.now) ++ payload
+        → fields.now.offset < 8192 → CutTells mtu (header_with fields.now) payload }
+    ensures err { OnErr result (out.new ≡ out.old) }
+{
+    fit(*fields);
+    add_cut(fields, packet, mtu, out)
+}
+
+// The fields but the offset have the width that a header gives them, by their types: a proof knows it of what isn't borrowed.
+fn fit(fields: Ip4Fields)
+    ensures { fields.offset < 8192 → AreFields fields }
+{}
+
+// adds a packet whose header has these fields and no options, cut where it is longer than the MTU
+fn add_cut(fields: &Ip4Fields, packet: &[u8], mtu: u16, out: &mut Packets) -> Result<(), NoMemory>
+    requires packet { (h : Header) × (payload : List ℕ) × (h.fields ≡ fields.now)
+        × (h.options ≡ []) × (packet.now ≡ header_bytes h ++ payload) }
+    requires short { length packet.now ≤ 65535 }
+    requires mtu { 576 ≤ mtu }
+    ensures ok { OnOk result ((h : Header) (payload : List ℕ)
+        → h.fields ≡ fields.now → h.options ≡ [] → packet.now ≡ header_bytes h ++ payload
+        → out.new ≡ out.old ++ cut_packet mtu h payload) }
+    ensures err { OnErr result (out.new ≡ out.old) }
+{
     let alloc = out.allocator();
-    let payload = packet.payload();
-    if 20 + payload.len() <= usize::from(mtu) {
-        let whole = Vec::from_slice(alloc, front_of(datagram, 20 + payload.len()))?;
+    if packet.len() <= usize::from(mtu) {
+        let whole = Vec::from_slice(alloc, packet)?;
         return out.push(whole);
     }
-    let pieces = pieces_of(alloc, &packet.fields(), payload, room_of(mtu, 20))?;
+    let pieces = pieces_of(alloc, fields, &packet[20..], room_of(mtu, 20))?;
     append(pieces, out)
 }
 

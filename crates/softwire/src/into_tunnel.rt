@@ -12,9 +12,9 @@ const IPV4: u8 = 4;
 const HOPS: u8 = 64;
 
 /// Adds the IPv6 packet that carries an IPv4 packet from `aftr` to the other end of the softwire, with
-/// this traffic class, and answers whether it was cut. `mtu` bounds the packet's bytes, its 40 bytes
-/// of header among them; a packet that fits isn't cut, and for now no other is taken. `id` is the
-/// identification for a packet that is cut, so nothing uses it yet. `NoMemory` changes nothing.
+/// this traffic class. `mtu` bounds the packet's bytes, its 40 bytes of header among them. Only a packet
+/// that fits is taken, so it answers that none was cut: `encap_cut` takes the others too. `id` isn't
+/// used, as it is the identification of a packet that is cut. `NoMemory` changes nothing.
 pub fn encap(
     inner: &[u8],
     class: u8,

@@ -6,7 +6,7 @@ mod fragments;
 mod from_tunnel;
 mod into_tunnel;
 
-pub use cut::cut4;
+pub use cut::{cut_with, cut4};
 pub use fragments::encap_cut;
 pub use from_tunnel::{DecapBad, Tunnel, decap};
 pub use into_tunnel::encap;

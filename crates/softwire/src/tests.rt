@@ -1,18 +1,21 @@
 //! Packets that are longer than a link takes, cut.
-ghost use Rattle.std.specs.Prelude.{◌≤◌};
+ghost use Rattle.std.specs.Prelude.{◌≡◌, ◌≤◌, ◌<◌, ◌+◌, ◌++◌, List, ℕ, IfOk, length};
+ghost use Rattle.wire_ip4.specs.Grammar.{header_bytes, header_with};
 
-use crate::{cut4, encap_cut};
+use crate::{cut_with, cut4, encap_cut};
 use aftr_base::{Ip4, Ip6, NoMemory, Packets};
 use arrayvec::ArrayVec;
 use std::alloc::Global;
 use std::test::Fail;
 use wire_ip4::{Ip4Fields, Ip4View, write_header};
 
-// a UDP packet of so many bytes behind its header, which are zero
-fn packet(alloc: Global, len: u16) -> Result<Vec<u8>, NoMemory>
+// the fields of a UDP packet of so many bytes behind its header
+fn fields(len: u16) -> Ip4Fields
     requires { len ≤ 2000 }
+    ensures offset { result.offset ≡ 0 }
+    ensures total { result.total ≡ 20 + len }
 {
-    let fields = Ip4Fields {
+    Ip4Fields {
         tos: 0x28,
         total: 20 + len,
         id: 9,
@@ -23,13 +26,22 @@ fn packet(alloc: Global, len: u16) -> Result<Vec<u8>, NoMemory>
         proto: 17,
         src: Ip4(0xcb00_7105),
         dst: Ip4(0xc000_0208),
-    };
-    let mut header = ArrayVec::new();
-    write_header(&fields, &mut header);
-    let mut bytes = Vec::from_slice(alloc, header.as_slice())?;
-    for _ in 0..len {
-        bytes.push(0)?;
     }
+}
+
+// the packet with these fields, whose bytes behind the header are zero
+fn packet(alloc: Global, fields: &Ip4Fields) -> Result<Vec<u8>, NoMemory>
+    requires offset { fields.now.offset < 8192 }
+    requires total { 20 ≤ fields.now.total }
+    ensures written { IfOk result (λ v. (payload : List ℕ)
+        × (v.items ≡ header_bytes (header_with fields.now) ++ payload)) }
+    ensures short { IfOk result (λ v. length v.items ≤ 65535) }
+{
+    let mut header = ArrayVec::new();
+    write_header(fields, &mut header);
+    let payload = vec![in alloc; 0; usize::from(fields.total - 20)]?;
+    let mut bytes = Vec::from_slice(alloc, header.as_slice())?;
+    bytes.extend_from_slice(&payload)?;
     Ok(bytes)
 }
 
@@ -45,6 +57,21 @@ fn cut(bytes: &[u8], mtu: u16, out: &mut Packets) -> Result<bool, NoMemory>
     }
     cut4(bytes, mtu, out)?;
     Ok(true)
+}
+
+// whether a packet is cut alike as it was written and as it is read, into so many pieces for a link of 576 bytes
+fn is_cut_alike(alloc: Global, len: u16, count: usize) -> Result<bool, NoMemory> {
+    if 2000 < len {
+        return Ok(false);
+    }
+    let fields = fields(len);
+    let bytes = packet(alloc, &fields)?;
+    let mut written = Packets::new(alloc);
+    cut_with(&fields, &bytes, 576, &mut written)?;
+    let mut read = Packets::new(alloc);
+    let is_read = cut(&bytes, 576, &mut read)?;
+    let pieces = written.into_vec();
+    Ok(is_read && pieces.len() == count && pieces == read.into_vec())
 }
 
 // puts a packet into a softwire of this MTU, and tells whether it was cut
@@ -75,9 +102,9 @@ fn has_at(bytes: &[u8], at: usize, part: &[u8]) -> bool {
 #[test]
 fn a_packet_for_the_public_side(rt: HostRuntime) -> Result<(), Fail> {
     let mut out = Packets::new(rt.alloc());
-    let long = packet(rt.alloc(), 1500)?;
+    let long = packet(rt.alloc(), &fields(1500))?;
     assert!(rt; cut(&long, 1500, &mut out)?);
-    let short = packet(rt.alloc(), 1480)?;
+    let short = packet(rt.alloc(), &fields(1480))?;
     assert!(rt; cut(&short, 1500, &mut out)?);
     let pieces = out.into_vec();
     match pieces.as_slice() {
@@ -92,9 +119,17 @@ fn a_packet_for_the_public_side(rt: HostRuntime) -> Result<(), Fail> {
 }
 
 #[test]
+fn a_packet_just_written(rt: HostRuntime) -> Result<(), Fail> {
+    for (len, count) in [(0, 1), (556, 1), (557, 2), (1104, 2), (1105, 3), (2000, 4)] {
+        assert!(rt; is_cut_alike(rt.alloc(), len, count)?, "{len} bytes");
+    }
+    Ok(())
+}
+
+#[test]
 fn a_packet_for_a_softwire(rt: HostRuntime) -> Result<(), Fail> {
     let mut out = Packets::new(rt.alloc());
-    let inner = packet(rt.alloc(), 1280)?;
+    let inner = packet(rt.alloc(), &fields(1280))?;
     assert!(rt; put(&inner, 1280, &mut out)?);
     assert!(rt; !put(&inner, 1340, &mut out)?);
     let pieces = out.into_vec();
