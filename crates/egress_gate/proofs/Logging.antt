@@ -67,7 +67,7 @@ few_closed : (at : ℕ) (s : State) → HasFew 0 (at_moment at s).closings
 few_closed at s = by_moment (λ (c : Closed). HasFew 0 c.closings) at s (λ le. few_none) (λ lt. few_blocks false at _)
 
 few_opened : (s : State) (e : Event) → HasFew 0 (treatment s e.kind e.bytes).openings
-few_opened s e = by_way (λ (t : Step). HasFew 0 t.openings) s e.bytes e.kind (record {
+few_opened s e = by_way (λ (t : Step). HasFew 0 t.openings) s e.bytes e.kind (λ kept. record {
   rests = few_none;
   drops = λ cause. few_none;
   answers = λ got cause e is. few_none;

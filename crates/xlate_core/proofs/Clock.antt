@@ -1,6 +1,7 @@
 -- The clock: a moment that isn't past it changes nothing, and another raises it.
 use Rattle.std.proofs.Common.{◌≡◌, ℕ, ◌<◌, ◌≤◌, Bool, true, false, cond, [], max, nat_le, refl, ap, arith}
 use Rattle.std.proofs.lemmas.Bool.{leb-true, leb-false, le-leb, lt-leb}
+use Rattle.frag_reasm.specs.Offers.{live}
 use Rattle.nat_mapping.specs.Rows.{expired}
 use Rattle.xlate_core.specs.Expiry.{Closed, at_moment, leases_ended}
 use Rattle.xlate_core.specs.State.{State}
@@ -11,7 +12,7 @@ unmoved s = record { state = s; closings = [] }
 
 -- the state with the clock raised, before leases end
 abbrev pub raised : ℕ → State → State
-raised at s = record s { clock = at; rows = expired at s.rows }
+raised at s = record s { clock = at; rows = expired at s.rows; kept = live at s.kept }
 
 by_test : (P : Closed → Type 0) (at : ℕ) (s : State) (b : Bool) → nat_le at s.clock ≡ b → (at ≤ s.clock → P (unmoved s))
     → (s.clock < at → P (leases_ended (raised at s))) → P (cond b (unmoved s) (leases_ended (raised at s)))

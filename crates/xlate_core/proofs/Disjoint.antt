@@ -97,7 +97,7 @@ disjoint_grant {s = s} {f = f} {g = g} by h = disjoint_case s f g by.accepted h 
 
 disjoint_treated : (s : State) (bytes : List ℕ) (kind : EventKind) → is_accepted s.config ≡ true → AreDisjoint s.leases
     → AreDisjoint (treatment s kind bytes).state.leases
-disjoint_treated s bytes kind ok h = by_way (λ (t : Step). AreDisjoint t.state.leases) s bytes kind (record {
+disjoint_treated s bytes kind ok h = by_way (λ (t : Step). AreDisjoint t.state.leases) s bytes kind (λ kept. record {
   rests = h;
   drops = λ cause. h;
   answers = λ got cause e is. h;

@@ -17,6 +17,7 @@ use Rattle.cfg_text.specs.Accepted.{is_accepted}
 use Rattle.cfg_text.specs.declared.config.Config.{Config}
 use Rattle.nat_mapping.specs.Rows.{Mapping}
 use Rattle.nat_mapping.specs.Rows.{expired}
+use Rattle.frag_reasm.specs.declared.pieces.PartialDatagram.{PartialDatagram}
 use Rattle.xlate_core.specs.Expiry.{Closed, at_moment, closing_limit, with_idle_ended}
 use Rattle.xlate_core.specs.State.{State, Step}
 use Rattle.xlate_core.specs.Step.{step, treatment}
@@ -26,7 +27,7 @@ use Rattle.xlate_core.specs.Outbound.{Outbound}
 use Rattle.xlate_core.specs.Valid.{IsStart, KeepsTold}
 use Rattle.xlate_core.proofs.Clock.{by_moment, floor_stays, plans_stay}
 use Rattle.xlate_core.proofs.LogTells.{run_horizon}
-use Rattle.xlate_core.proofs.Treatments.{IsOut, by_way}
+use Rattle.xlate_core.proofs.Treatments.{IsOut, by_way, keeping}
 use Rattle.xlate_core.proofs.ValidExpiry.{Idle, Lasts, MayEnd, idle_end, idle_open}
 use Rattle.xlate_core.proofs.ValidStates.{grant_out, moment_accepted, run_floor, step_accepted, step_floor, treated_beside}
 use Rattle.xlate_core.proofs.WirePlaces.{IsNew, grant_new}
@@ -100,17 +101,17 @@ first_opened {told = told} {end = end} more later h = record {
 first_treated : {told : List LeaseRow} (s : State) (bytes : List ℕ) (kind : EventKind) → is_accepted s.config ≡ true
     → StandFirst told s.floor s.leases → StandFirst told s.floor (treatment s kind bytes).state.leases
 first_treated {told = told} s bytes kind ok h =
-    let more : (got : Outbound) (g : Grant) → IsOut s got g → StandFirst told s.floor (s.leases ++ option_to_list g.lease) =
-    λ got g by. first_opened (option_to_list g.lease) (new_later s.floor s.clock g.lease by.settled (grant_new (grant_out ok by))) h in
-    by_way (λ (t : Step). StandFirst told s.floor t.state.leases) s bytes kind (record {
+    let more : (kept : List PartialDatagram) (got : Outbound) (g : Grant) → IsOut (keeping s kept) got g → StandFirst told s.floor (s.leases ++ option_to_list g.lease) =
+    λ kept got g by. first_opened (option_to_list g.lease) (new_later s.floor s.clock g.lease by.settled (grant_new (grant_out ok by))) h in
+    by_way (λ (t : Step). StandFirst told s.floor t.state.leases) s bytes kind (λ kept. record {
       rests = h;
       drops = λ cause. h;
       answers = λ got cause e is. h;
       relays = λ i is. h;
       delivers = λ d r by. h;
-      forwards = λ got g by abroad. more got g by;
-      turns = λ got g row by turned. more got g by;
-      holds = λ got g cause by refuses. more got g by;
+      forwards = λ got g by abroad. more kept got g by;
+      turns = λ got g row by turned. more kept got g by;
+      holds = λ got g cause by refuses. more kept got g by;
     })
 
 -- ---- a step and a run

@@ -26,7 +26,7 @@ use Rattle.xlate_core.specs.Run.{run}
 use Rattle.xlate_core.specs.State.{State, Step}
 use Rattle.xlate_core.specs.Step.{flow_of, horizon_by, needs_horizon, step, treatment, turned}
 use Rattle.xlate_core.proofs.Clock.{by_moment}
-use Rattle.xlate_core.proofs.Treatments.{by_way}
+use Rattle.xlate_core.proofs.Treatments.{by_way, keeping}
 
 -- ---- a peer that is made or refreshed takes no other's place
 
@@ -154,7 +154,7 @@ module _ (key : InnerKey) (ext : Ext) (remote : Peer) where
   stays_inbound s a u = inbound_by _ s.rows (moved_in s a) u
 
   stays_treated : (s : State) (bytes : List ℕ) (kind : EventKind) → Used s.rows → Used (treatment s kind bytes).state.rows
-  stays_treated s bytes kind u = by_way (λ (t : Step). Used t.state.rows) s bytes kind (record {
+  stays_treated s bytes kind u = by_way (λ (t : Step). Used t.state.rows) s bytes kind (λ kept. record {
     rests = u;
     drops = λ cause. u;
     answers = λ got cause e is. u;
@@ -260,14 +260,15 @@ other_cause : (s : State) (a : Arrival) (cause : DropCause) → receiver_of s a 
 other_cause s a cause h = other_by (find_in a.proto a.to s.rows) _ _ cause h
 
 abbrev LeavesAll : State → Step → Type 0
-LeavesAll s t = IfSome t.drop (λ cause. is_refusal cause ≡ true → horizon_by (needs_horizon t) t.state ≡ s)
+LeavesAll s t =
+    IfSome t.drop (λ cause. is_refusal cause ≡ true → (let after = horizon_by (needs_horizon t) t.state in after ≡ keeping s after.kept))
 
 never : {A : Type 0} (b : Bool) → b ≡ false → b ≡ true → A
 never true f t = cc
 never false f t = cc
 
 leaves_treated : (s : State) (bytes : List ℕ) (kind : EventKind) → LeavesAll s (treatment s kind bytes)
-leaves_treated s bytes kind = by_way (LeavesAll s) s bytes kind (record {
+leaves_treated s bytes kind = by_way (LeavesAll s) s bytes kind (λ kept. record {
   rests = tt;
   drops = λ cause refused. refl;
   answers = λ got cause e is refused. refl;

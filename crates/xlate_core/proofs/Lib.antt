@@ -1,5 +1,6 @@
 pub mod Arriving
 pub mod Attempts
+pub mod Brought
 pub mod Clock
 pub mod Closings
 pub mod Connections

@@ -5,11 +5,12 @@ use Rattle.aftr_base.specs.declared.event.Event.{Event}
 use Rattle.aftr_base.specs.declared.event.EventKind.{EventKind}
 use Rattle.aftr_base.specs.declared.row.LeaseRow.{LeaseRow}
 use Rattle.cfg_text.specs.Accepted.{is_accepted}
+use Rattle.frag_reasm.specs.declared.pieces.PartialDatagram.{PartialDatagram}
 use Rattle.xlate_core.specs.Expiry.{at_moment}
 use Rattle.aftr_base.specs.Row.{block_event}
 use Rattle.xlate_core.specs.State.{State, Step}
 use Rattle.xlate_core.specs.Step.{treatment}
-use Rattle.xlate_core.proofs.Treatments.{by_way}
+use Rattle.xlate_core.proofs.Treatments.{by_way, keeping}
 use Rattle.xlate_core.proofs.ValidStates.{grant_out, moment_accepted}
 pub use Rattle.xlate_core.proofs.Clock.{raised}
 pub use Rattle.xlate_core.proofs.WirePlaces.{IsNew}
@@ -24,8 +25,8 @@ pub record Opens (s : State) (t : Step) : Type 0 where
   pub leases : t.state.leases ≡ s.leases ++ option_to_list lease
   pub new : IfSome lease (IsNew s.clock)
 
-opens_none : (s : State) (t : Step) → t.state ≡ s → t.closings ≡ [] → t.openings ≡ [] → Opens s t
-opens_none s t same closings openings = record {
+opens_none : (s : State) (kept : List PartialDatagram) (t : Step) → t.state ≡ keeping s kept → t.closings ≡ [] → t.openings ≡ [] → Opens s t
+opens_none s kept t same closings openings = record {
   config = ap (λ (x : State). x.config) same;
   clock = ap (λ (x : State). x.clock) same;
   closings = closings;
@@ -36,11 +37,11 @@ opens_none s t same closings openings = record {
 }
 
 pub opens_treated : (s : State) (bytes : List ℕ) (kind : EventKind) → is_accepted s.config ≡ true → Opens s (treatment s kind bytes)
-opens_treated s bytes kind ok = by_way (Opens s) s bytes kind (record {
-  rests = opens_none s _ refl refl refl;
-  drops = λ cause. opens_none s _ refl refl refl;
-  answers = λ got cause e is. opens_none s _ refl refl refl;
-  relays = λ i is. opens_none s _ refl refl refl;
+opens_treated s bytes kind ok = by_way (Opens s) s bytes kind (λ kept. record {
+  rests = opens_none s kept _ refl refl refl;
+  drops = λ cause. opens_none s kept _ refl refl refl;
+  answers = λ got cause e is. opens_none s kept _ refl refl refl;
+  relays = λ i is. opens_none s kept _ refl refl refl;
   delivers = λ d row by. record {
     config = refl;
     clock = refl;

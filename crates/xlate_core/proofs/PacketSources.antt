@@ -14,7 +14,7 @@ use Rattle.aftr_base.specs.declared.event.EventKind.{EventKind}
 use Rattle.aftr_base.specs.declared.told.Told.{Told}
 use Rattle.cfg_text.specs.declared.config.Config.{Config}
 use Rattle.xlate_core.specs.declared.grant.Grant.{Grant}
-use Rattle.xlate_core.specs.declared.grant.Sender.{Sender}
+use Rattle.ingress.specs.declared.received.Sender.{Sender}
 use Rattle.xlate_core.specs.declared.step_out.Item.{Item}
 use Rattle.xlate_core.specs.State.{State, Step, item}
 use Rattle.softwire.specs.Tunnel.{tunnel_fields}
@@ -34,13 +34,13 @@ use Rattle.xlate_core.specs.Valid.{AreDisjoint, IsConsistent, IsStart}
 use Rattle.xlate_core.proofs.Disjoint.{disjoint_run}
 use Rattle.xlate_core.proofs.Holders.{IsHeld, holders, held_later, held_now, sole_holder}
 use Rattle.xlate_core.proofs.LeasesOver.{AreLater, later_run}
-use Rattle.xlate_core.proofs.Reached.{IsReached, reached_moment, reached_start, reached_step}
+use Rattle.xlate_core.proofs.Reached.{IsReached, reached_keeping, reached_moment, reached_start, reached_step}
 use Rattle.xlate_core.proofs.ValidForwards.{place_granted, row_lies}
 use Rattle.xlate_core.proofs.ValidStates.{grant_out}
 use Rattle.xlate_core.proofs.WirePlaces.{address_back, address_out, behind_address, behind_port, behind_query, no_query_back, place_fits}
 use Rattle.xlate_core.proofs.WirePlaces.{port_back, port_by, port_in, port_out, wire_grant}
 use Rattle.xlate_core.proofs.Packets.{sent_outward}
-use Rattle.xlate_core.proofs.Treatments.{IsOut, by_way}
+use Rattle.xlate_core.proofs.Treatments.{EachWay, IsOut, by_way, keeping}
 use Rattle.xlate_core.proofs.WholeErrors.{GoesIn, GoesOut, IsRelayed, IsSentError, TurnsBack}
 use Rattle.xlate_core.proofs.ValidRows.{lies_at}
 
@@ -177,9 +177,8 @@ one_item : (P : Item → Type 0) (i : Item) → P i → All P (i ∷ [])
 one_item P i h = All-cons P i [] h (All-nil P)
 
 -- each packet of a step
-pub source_treated : (s : State) (bytes : List ℕ) (kind : EventKind) → IsReached s
-    → All (IsFromLease (treatment s kind bytes).state.leases) (treatment s kind bytes).items
-source_treated s bytes kind h = by_way (λ (t : Step). All (IsFromLease t.state.leases) t.items) s bytes kind (record {
+source_ways : (s : State) → IsReached s → EachWay (λ (t : Step). All (IsFromLease t.state.leases) t.items) s
+source_ways s h = record {
   rests = All-nil (IsFromLease s.leases);
   drops = λ cause. All-nil (IsFromLease s.leases);
   answers = λ got cause e is. one_item (IsFromLease s.leases) _ (nobodys s.leases (item s SoftwireSide None (answer_bytes s got e)) refl);
@@ -192,7 +191,13 @@ source_treated s bytes kind h = by_way (λ (t : Step). All (IsFromLease t.state.
       let sent = item s SoftwireSide (Some got.who.owner) (hairpin_bytes s got g row) in
       one_item (IsFromLease (sent_back s got g row).state.leases) sent (source_back row h by);
   holds = λ got g cause by refuses. All-nil (IsFromLease (held_back s got g cause).state.leases);
-})
+}
+
+pub source_treated : (s : State) (bytes : List ℕ) (kind : EventKind) → IsReached s
+    → All (IsFromLease (treatment s kind bytes).state.leases) (treatment s kind bytes).items
+source_treated s bytes kind h =
+    by_way (λ (t : Step). All (IsFromLease t.state.leases) t.items) s bytes kind
+    (λ kept. source_ways (keeping s kept) (reached_keeping kept h))
 
 pub source_step : (s : State) (e : Event) → IsReached s → All (IsFromLease (step s e).state.leases) (step s e).items
 source_step s e h = source_treated (at_moment e.at.0 s).state e.bytes e.kind (reached_moment e.at.0 s h)
@@ -203,7 +208,7 @@ IsAt now i = i.at.0 ≡ now
 
 now_treated : (s : State) (bytes : List ℕ) (kind : EventKind)
     → All (IsAt (treatment s kind bytes).state.clock) (treatment s kind bytes).items
-now_treated s bytes kind = by_way (λ (t : Step). All (IsAt t.state.clock) t.items) s bytes kind (record {
+now_treated s bytes kind = by_way (λ (t : Step). All (IsAt t.state.clock) t.items) s bytes kind (λ kept. record {
   rests = All-nil (IsAt s.clock);
   drops = λ cause. All-nil (IsAt s.clock);
   answers = λ got cause e is. one_item (IsAt s.clock) _ refl;

@@ -14,13 +14,14 @@ use Rattle.xlate_core.specs.declared.step_out.Item.{Item}
 use Rattle.xlate_core.specs.State.{State, Step}
 use Rattle.xlate_core.specs.Datagram.{Datagram, datagram_bytes, hairpinned, inner_place, translated}
 use Rattle.xlate_core.specs.Errors.{answer_bytes}
-use Rattle.xlate_core.specs.Outbound.{Outbound, Received}
+use Rattle.ingress.specs.declared.received.Received.{Received}
+use Rattle.xlate_core.specs.Outbound.{Outbound}
 use Rattle.xlate_core.specs.Expiry.{at_moment}
 use Rattle.xlate_core.specs.Step.{step, treatment, delivered_bytes, hairpin_bytes, turns_back}
 use Rattle.xlate_core.specs.Run.{run}
 use Rattle.xlate_core.specs.Stepped.{AreShort}
 use Rattle.xlate_core.proofs.WholeDatagrams.{IsOutward, length_hairpinned, length_translated, length_tunnelled}
-use Rattle.xlate_core.proofs.Treatments.{IsIn, IsOut, IsReceived, IsTurned, by_way}
+use Rattle.xlate_core.proofs.Treatments.{IsFrom, IsIn, IsOut, IsTurned, by_way}
 use Rattle.xlate_core.proofs.WholeErrors.{GoesIn, GoesOut, IsRelayed, TurnsBack, length_forwarded, length_made, length_turned}
 use Rattle.xlate_core.proofs.ValidStates.{moment_accepted, step_accepted}
 
@@ -51,10 +52,10 @@ length_in {s = s} {d = d} {row = row} by =
     let whole = length_tunnelled s.config.aftr row.key.softwire d.header.fields.tos 4 (datagram_bytes (translated false inner d)) in
     omega (arith, whole, length_translated false inner d is.whole, by.receives.fits)
 
-pub length_answer : (s : State) (got : Received) (e : MadeError) → IsReceived s.config got → length (answer_bytes s got e) ≤ 96
+pub length_answer : (s : State) (got : Received) (e : MadeError) → IsFrom s.config got → length (answer_bytes s got e) ≤ 96
 length_answer s got e is =
     let made = error_packet e got.packet.0 got.packet.1 in
-    omega (arith, length_tunnelled s.config.aftr got.who.softwire 0 4 made, length_made e got.packet.0 got.packet.1 is.whole.plain.options)
+    omega (arith, length_tunnelled s.config.aftr got.who.softwire 0 4 made, length_made e got.packet.0 got.packet.1 is.packet.plain)
 
 abbrev IsShortItem : Item → Type 0
 IsShortItem i = length i.bytes ≤ 65535
@@ -79,7 +80,7 @@ one_short : (i : Item) → IsShortItem i → AreShort (i ∷ [])
 one_short i h = All-cons IsShortItem i [] h (All-nil IsShortItem)
 
 pub short_treated : (s : State) (bytes : List ℕ) (kind : EventKind) → is_accepted s.config ≡ true → AreShort (treatment s kind bytes).items
-short_treated s bytes kind ok = by_way (λ (t : Step). AreShort t.items) s bytes kind (record {
+short_treated s bytes kind ok = by_way (λ (t : Step). AreShort t.items) s bytes kind (λ kept. record {
   rests = All-nil IsShortItem;
   drops = λ cause. All-nil IsShortItem;
   answers = λ got cause e is. one_short _ (omega (arith, length_answer s got e is));

@@ -8,6 +8,7 @@ use Rattle.aftr_base.specs.declared.row.LeaseRow.{LeaseRow}
 use Rattle.aftr_base.specs.declared.told.Told.{Told}
 use Rattle.cfg_text.specs.declared.config.Config.{Config}
 use Rattle.cfg_text.specs.Accepted.{is_accepted}
+use Rattle.frag_reasm.specs.declared.pieces.PartialDatagram.{PartialDatagram}
 use Rattle.xlate_core.specs.State.{State}
 use Rattle.xlate_core.specs.Expiry.{at_moment}
 use Rattle.xlate_core.specs.Step.{step}
@@ -15,7 +16,8 @@ use Rattle.xlate_core.specs.Run.{run, start}
 use Rattle.xlate_core.specs.Valid.{AreDisjoint, IsOnWire, IsStart, is_lease_by}
 pub use Rattle.xlate_core.specs.Valid.{IsReached}
 use Rattle.xlate_core.proofs.ValidExpiry.{consistent_moment}
-use Rattle.xlate_core.proofs.ValidStates.{moment_accepted, step_accepted, consistent_start, consistent_step}
+use Rattle.xlate_core.proofs.Treatments.{keeping}
+use Rattle.xlate_core.proofs.ValidStates.{consistent_keeping, moment_accepted, step_accepted, consistent_start, consistent_step}
 use Rattle.xlate_core.proofs.WirePlaces.{wire_moment, wire_step}
 
 -- an empty log is such a start
@@ -41,6 +43,10 @@ reached_moment at s h = record {
   consistent = consistent_moment at s h.consistent;
   wire = wire_moment at s h.wire;
 }
+
+-- whatever pieces are held
+pub reached_keeping : {s : State} (kept : List PartialDatagram) → IsReached s → IsReached (keeping s kept)
+reached_keeping kept h = record { accepted = h.accepted; consistent = consistent_keeping kept h.consistent; wire = h.wire }
 
 pub reached_step : (s : State) (e : Event) → IsReached s → IsReached (step s e).state
 reached_step s e h = record {

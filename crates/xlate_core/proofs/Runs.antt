@@ -91,7 +91,7 @@ one_opening : (s : State) (g : Grant) → length (opening_events s g) ≤ 1
 one_opening s g = omega (arith, length-map (option_to_list g.lease) (block_event true s.clock), at_most_one g.lease)
 
 pub lone_treated : (s : State) (bytes : List ℕ) (kind : EventKind) → IsLone (treatment s kind bytes)
-lone_treated s bytes kind = by_way IsLone s bytes kind (record {
+lone_treated s bytes kind = by_way IsLone s bytes kind (λ kept. record {
   rests = record { items = omega arith; closings = refl; openings = omega arith; drops = omega arith };
   drops = λ cause. record { items = omega arith; closings = refl; openings = omega arith; drops = omega arith };
   answers = λ got cause e is. record { items = omega arith; closings = refl; openings = omega arith; drops = omega arith };

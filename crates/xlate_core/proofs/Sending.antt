@@ -13,7 +13,8 @@ use Rattle.aftr_base.specs.declared.event.LogEvent.{LogEvent}
 use Rattle.xlate_core.specs.declared.grant.Flow.{Flow}
 use Rattle.xlate_core.specs.declared.grant.Grant.{Grant}
 use Rattle.xlate_core.specs.Datagram.{datagram_bytes, translated}
-use Rattle.xlate_core.specs.Outbound.{Outbound, Received}
+use Rattle.ingress.specs.declared.received.Received.{Received}
+use Rattle.xlate_core.specs.Outbound.{Outbound}
 use Rattle.xlate_core.specs.Grant.{after_grant, opening_events}
 use Rattle.xlate_core.specs.State.{State, is_past_horizon, item}
 use Rattle.xlate_core.specs.Grant.{granted_only}

@@ -1,10 +1,7 @@
 -- In which ways a record is treated.
-use Rattle.std.proofs.Common.{◌≡◌, ℕ, ◌+◌, ◌<◌, ◌≤◌, Bool, true, false, cond, not, List, Option, Some, None, Result, Ok, Err, ok_or, nat_le, nat_lt, refl, ap, subst}
+use Rattle.std.proofs.Common.{◌≡◌, ℕ, ◌+◌, ◌<◌, ◌≤◌, Bool, true, false, cond, List, Option, Some, None, Result, Ok, Err, ok_or, nat_le, nat_lt, refl, subst}
 use Rattle.std.specs.Prelude.{if◌then◌else◌}
-use Rattle.std.proofs.lemmas.Bool.{leb-true, ltb-true, not-true}
-use Rattle.aftr_base.specs.Attempt.{◌>>=◌}
-use Rattle.aftr_base.specs.declared.value.Ip6.{Ip6}
-use Rattle.aftr_base.specs.declared.value.Subscriber.{Subscriber}
+use Rattle.std.proofs.lemmas.Bool.{leb-true, ltb-true}
 use Rattle.aftr_base.specs.declared.event.EventKind.{EventKind}
 use Rattle.aftr_base.specs.declared.event.DropCause.{DropCause}
 use Rattle.aftr_base.specs.declared.event.DropCause.TheVariants.{Settling, Snapped as SnappedCause, BadPacket, NoProtocol, NoMapping, Filtered}
@@ -13,85 +10,45 @@ use Rattle.aftr_base.specs.declared.event.EventKind.TheVariants.{Softwire, Publi
 use Rattle.cfg_text.specs.declared.config.Config.{Config}
 use Rattle.icmp_xlate.specs.declared.made.MadeError.{MadeError}
 use Rattle.nat_mapping.specs.Rows.{Mapping}
-use Rattle.wire_ip4.specs.Grammar.{Header, is_piece}
+use Rattle.wire_ip4.specs.Grammar.{Header}
 use Rattle.xlate_core.specs.declared.grant.Grant.{Grant}
-use Rattle.xlate_core.specs.declared.grant.Sender.{Sender}
 use Rattle.xlate_core.specs.Rows.{find_in}
-use Rattle.xlate_core.specs.subscriber_table.Under.{subscriber_of}
-use Rattle.xlate_core.specs.State.{State, Step, is_ours}
+use Rattle.subscriber_table.specs.Under.{subscriber_of}
+use Rattle.frag_reasm.specs.declared.pieces.PartialDatagram.{PartialDatagram}
+use Rattle.ingress.specs.Arrival.{Arrival}
+use Rattle.ingress.specs.Laws.{IsReceived}
+use Rattle.ingress.specs.Packet.{IsUncut}
+use Rattle.ingress.specs.PublicSide.{public_arrival}
+use Rattle.ingress.specs.SoftwireSide.{softwire_arrival}
+use Rattle.ingress.proofs.Arrivals.{public_brings_uncut, softwire_brings_uncut}
+use Rattle.xlate_core.specs.State.{State, Step}
 use Rattle.xlate_core.specs.Datagram.{Datagram}
 use Rattle.xlate_core.specs.declared.step_out.Item.{Item}
 use Rattle.xlate_core.specs.declared.packet.Content.{Content}
 use Rattle.xlate_core.specs.declared.packet.Content.TheVariants.{Carries, Reports}
 use Rattle.xlate_core.specs.Errors.{error_about, error_from_public, error_from_subscriber}
-use Rattle.xlate_core.specs.Outbound.{Outbound, Received, outward, received_from, tunnelled}
-use Rattle.xlate_core.specs.Inbound.{arrived, inward}
-use Rattle.xlate_core.specs.Packet.{plain_ip4}
-use Rattle.xlate_core.specs.declared.arrival.Arrival.{Arrival}
+use Rattle.ingress.specs.declared.received.Received.{Received}
+use Rattle.xlate_core.specs.Outbound.{Outbound, outward}
+use Rattle.xlate_core.specs.Inbound.{inward}
+use Rattle.xlate_core.specs.declared.arrival.Arrival.{Arrival as Incoming}
 use Rattle.xlate_core.specs.Arrivals.{arrival_of, receiver_of}
 use Rattle.xlate_core.specs.Grant.{granted_only}
-use Rattle.xlate_core.specs.Step.{answered, arrived_now, content_in, content_out, dropped, flow_of, forwarding_step, from_public}
-use Rattle.xlate_core.specs.Step.{from_subscriber, hairpin_step, held_back, mapped, quiet, received_now, refused, relayed, relayed_if}
-use Rattle.xlate_core.specs.Step.{sent_back, sent_by, sent_in, sent_out, treatment, turned, turns_back}
+use Rattle.xlate_core.specs.Step.{answered, content_in, content_out, dropped, flow_of, forwarding_step, from_public}
+use Rattle.xlate_core.specs.Step.{from_subscriber, hairpin_step, held_back, mapped, quiet, refused, relayed, relayed_if}
+use Rattle.xlate_core.specs.Step.{sent_back, sent_by, sent_in, sent_out, treated, treatment, turned, turns_back}
 use Rattle.cfg_text.specs.Accepted.{by_address}
 use Rattle.nat_filter.specs.Admits.{admits as lets_in}
 use Rattle.xlate_core.proofs.Attempts.{step_gave, test_passed, was_there, ok_inj}
-use Rattle.xlate_core.proofs.WholeDatagrams.{IsInward, IsOutward, IsWholePacket, is_inward, is_outward, is_plain}
+use Rattle.xlate_core.proofs.WholeDatagrams.{IsInward, IsOutward, is_inward, is_outward}
 use Rattle.xlate_core.proofs.WholeErrors.{IsRelayed, error_inward, error_outward, relayed_in, relayed_out}
 
--- ---- what was received
-
-abbrev sender_of : Ip6 → Subscriber → Sender
-sender_of softwire owner = record { softwire = softwire; owner = owner }
-
-abbrev IsKnown : Config → Sender → Type 0
-IsKnown c who = subscriber_of c who.softwire ≡ Some who.owner
-
--- whatever a tunnel is, where a softwire and what it carries are read from it
-known_by : {A : Type 0} (c : Config) (r : Result A DropCause) (softwire : A → Ip6) (inner : A → Result (List ℕ) DropCause) (e : DropCause)
-    (sent : Sender × List ℕ)
-    → (r >>= (λ t. ok_or (subscriber_of c (softwire t)) e >>= (λ owner. inner t >>= (λ p. Ok (sender_of (softwire t) owner, p))))) ≡ Ok sent
-    → IsKnown c sent.0
-known_by c r softwire inner e sent h =
-    let (tunnel, opens, next) = step_gave r _ sent h in
-    let (owner, known, next') = step_gave (ok_or (subscriber_of c (softwire tunnel)) e) _ sent next in
-    let (packet, whole, same) = step_gave (inner tunnel) _ sent next' in
-    let is = ap (λ (x : Sender × List ℕ). x.0) (ok_inj (sender_of (softwire tunnel) owner, packet) sent _ refl same) in
-    subst (IsKnown c) is (was_there (subscriber_of c (softwire tunnel)) e owner known)
-
-sender_known : (c : Config) (bytes : List ℕ) (sent : Sender × List ℕ) → tunnelled c bytes ≡ Ok sent → IsKnown c sent.0
-sender_known c bytes sent h = known_by c _ _ _ _ sent h
+-- the same where other pieces are held
+abbrev pub keeping : State → List PartialDatagram → State
+keeping s kept = record s { kept = kept }
 
 -- a whole packet of a subscriber
-pub record IsReceived (c : Config) (got : Received) : Type 0 where
-  pub owns : IsKnown c got.who
-  pub whole : IsWholePacket got.packet
-
-abbrev received_with : Sender → Header × List ℕ → Received
-received_with who packet = record { who = who; packet = packet }
-
-whole_read : (bytes : List ℕ) (p : Header × List ℕ) → plain_ip4 bytes ≡ Ok p → not (is_piece p.0) ≡ true → IsWholePacket p
-whole_read bytes p plain unbroken = record { plain = is_plain bytes p plain; unbroken = not-true (is_piece p.0) unbroken }
-
-is_received : (c : Config) (bytes : List ℕ) (got : Received) → received_from c bytes ≡ Ok got → IsReceived c got
-is_received c bytes got h =
-    let (sent, opens, next) = step_gave (tunnelled c bytes) _ got h in
-    let (packet, plain, next') = step_gave (plain_ip4 sent.1) _ got next in
-    let (unbroken, same) = test_passed (not (is_piece packet.0)) _ _ got next' in
-    subst (IsReceived c) (ok_inj (received_with sent.0 packet) got _ refl same)
-    (record { owns = sender_known c bytes sent opens; whole = whole_read sent.1 packet plain unbroken })
-
--- a whole packet to the pool
-pub record IsArrived (c : Config) (packet : Header × List ℕ) : Type 0 where
-  pub enters : is_ours c packet.0.fields.dst ≡ true
-  pub whole : IsWholePacket packet
-
-is_arrived : (c : Config) (bytes : List ℕ) (packet : Header × List ℕ) → arrived c bytes ≡ Ok packet → IsArrived c packet
-is_arrived c bytes packet h =
-    let (p, plain, next) = step_gave (plain_ip4 bytes) _ packet h in
-    let (enters, next') = test_passed (is_ours c p.0.fields.dst) _ _ packet next in
-    let (unbroken, same) = test_passed (not (is_piece p.0)) _ _ packet next' in
-    subst (IsArrived c) (ok_inj p packet _ refl same) (record { enters = enters; whole = whole_read bytes p plain unbroken })
+abbrev pub IsFrom : Config → Received → Type 0
+IsFrom c got = IsReceived c IsUncut got
 
 -- ---- the ways of a packet
 
@@ -103,12 +60,12 @@ pub record IsOut (s : State) (got : Outbound) (g : Grant) : Type 0 where
   pub grants : mapped s got ≡ Ok g
 
 -- a datagram that a mapping receives
-pub record IsTaken (s : State) (a : Arrival) (row : Mapping) : Type 0 where
+pub record IsTaken (s : State) (a : Incoming) (row : Mapping) : Type 0 where
   pub finds : find_in a.proto a.to s.rows ≡ Some row
   pub filters : lets_in row a.from.addr (by_address s.config) ≡ true
   pub fits : 40 + a.total ≤ s.config.softwire_mtu
 
-pub is_taken : (s : State) (a : Arrival) (row : Mapping) → receiver_of s a ≡ Ok row → IsTaken s a row
+pub is_taken : (s : State) (a : Incoming) (row : Mapping) → receiver_of s a ≡ Ok row → IsTaken s a row
 is_taken s a row h =
     let (r, found, next) = step_gave (ok_or (find_in a.proto a.to s.rows) NoMapping) _ row h in
     let (filters, next') = test_passed (lets_in r a.from.addr (by_address s.config)) Filtered _ row next in
@@ -134,7 +91,7 @@ IsTurned s got g row = IsTaken (granted_only (flow_of got) g s) (arrival_of (tur
 pub record EachWay (P : Step → Type 0) (s : State) : Type 0 where
   pub rests : P (quiet s)
   pub drops : (cause : DropCause) → P (dropped s cause)
-  pub answers : (got : Received) (cause : DropCause) (e : MadeError) → IsReceived s.config got → P (answered s got cause e)
+  pub answers : (got : Received) (cause : DropCause) (e : MadeError) → IsFrom s.config got → P (answered s got cause e)
   pub relays : (i : Item) → IsRelayed s i → P (relayed s i)
   pub delivers : (d : Datagram) (row : Mapping) → IsIn s d row → P (sent_in s d row)
   pub forwards : (got : Outbound) (g : Grant) → IsOut s got g → turns_back s got ≡ false → P (sent_out s got g)
@@ -144,12 +101,12 @@ pub record EachWay (P : Step → Type 0) (s : State) : Type 0 where
 
 module _ (P : Step → Type 0) (s : State) (each : EachWay P s) where
   -- a refusal
-  told_by : (got : Received) (cause : DropCause) (o : Option MadeError) → IsReceived s.config got
+  told_by : (got : Received) (cause : DropCause) (o : Option MadeError) → IsFrom s.config got
       → P (elim o [ None ↦ dropped s cause | Some e ↦ answered s got cause e ])
   told_by got cause None is = each.drops cause
   told_by got cause (Some e) is = each.answers got cause e is
 
-  way_refused : (got : Received) (cause : DropCause) → IsReceived s.config got → P (refused s got cause)
+  way_refused : (got : Received) (cause : DropCause) → IsFrom s.config got → P (refused s got cause)
   way_refused got cause is = told_by got cause (error_about s.config got.packet cause) is
 
   -- a datagram from a subscriber
@@ -166,12 +123,12 @@ module _ (P : Step → Type 0) (s : State) (each : EachWay P s) where
   way_on got g false e is = each.forwards got g is e
 
   way_sent : (got : Received) (d : Datagram) (r : Result Grant DropCause) → mapped s (sent_by got.who d) ≡ r → s.floor < s.clock
-      → IsReceived s.config got → IsOutward s.config d
+      → IsFrom s.config got → IsOutward s.config d
       → P (elim r [ Err cause ↦ refused s got cause | Ok g ↦ forwarding_step s (sent_by got.who d) g ])
   way_sent got d (Err cause) e settled is sends = way_refused got cause is
   way_sent got d (Ok g) e settled is sends =
       let sent = sent_by got.who d in
-      way_on sent g (turns_back s sent) refl (record { settled = settled; sends = sends; owns = is.owns; grants = e })
+      way_on sent g (turns_back s sent) refl (record { settled = settled; sends = sends; owns = is.owner; grants = e })
 
   -- an error that is passed on
   way_relayed : (r : Result Item DropCause) → ((i : Item) → r ≡ Ok i → IsRelayed s i) → P (relayed_if s r)
@@ -179,15 +136,15 @@ module _ (P : Step → Type 0) (s : State) (each : EachWay P s) where
   way_relayed (Ok i) h = each.relays i (h i refl)
 
   way_content : (got : Received) (r : Result Content DropCause) → outward s.config got.packet ≡ r → s.floor < s.clock
-      → IsReceived s.config got → P (elim r [ Err cause ↦ refused s got cause | Ok content ↦ content_out s got content ])
+      → IsFrom s.config got → P (elim r [ Err cause ↦ refused s got cause | Ok content ↦ content_out s got content ])
   way_content got (Err cause) e settled is = way_refused got cause is
   way_content got (Ok (Carries d)) e settled is =
-      way_sent got d (mapped s (sent_by got.who d)) refl settled is (is_outward s.config got.packet d is.whole e)
+      way_sent got d (mapped s (sent_by got.who d)) refl settled is (is_outward s.config got.packet d is.packet e)
   way_content got (Ok (Reports r)) e settled is =
       way_relayed (error_from_subscriber s got.who r)
-      (relayed_out s got.who r is.owns (error_outward s.config got.packet r is.whole e))
+      (relayed_out s got.who r is.owner (error_outward s.config got.packet r is.packet e))
 
-  pub from_subscriber_way : (got : Received) → s.floor < s.clock → IsReceived s.config got → P (from_subscriber s got)
+  pub from_subscriber_way : (got : Received) → s.floor < s.clock → IsFrom s.config got → P (from_subscriber s got)
   from_subscriber_way got settled is = way_content got (outward s.config got.packet) refl settled is
 
   -- a packet of the public side
@@ -198,38 +155,55 @@ module _ (P : Step → Type 0) (s : State) (each : EachWay P s) where
       each.delivers d row (record { settled = settled; arrives = is; receives = is_taken s (arrival_of d) row e })
 
   way_brought : (packet : Header × List ℕ) (r : Result Content DropCause) → inward s.config packet ≡ r → s.floor < s.clock
-      → IsArrived s.config packet → P (elim r [ Err cause ↦ dropped s cause | Ok content ↦ content_in s content ])
+      → IsUncut packet → P (elim r [ Err cause ↦ dropped s cause | Ok content ↦ content_in s content ])
   way_brought packet (Err cause) e settled is = each.drops cause
   way_brought packet (Ok (Carries d)) e settled is =
-      way_delivered d (receiver_of s (arrival_of d)) refl settled (is_inward s.config packet d is.whole is.enters e)
+      way_delivered d (receiver_of s (arrival_of d)) refl settled (is_inward s.config packet d is e)
   way_brought packet (Ok (Reports r)) e settled is =
-      way_relayed (error_from_public s r) (relayed_in s r (error_inward s.config packet r is.whole e))
+      way_relayed (error_from_public s r) (relayed_in s r (error_inward s.config packet r is e))
 
-  pub from_public_way : (packet : Header × List ℕ) → s.floor < s.clock → IsArrived s.config packet → P (from_public s packet)
+  pub from_public_way : (packet : Header × List ℕ) → s.floor < s.clock → IsUncut packet → P (from_public s packet)
   from_public_way packet settled is = way_brought packet (inward s.config packet) refl settled is
 
-  -- ---- a record
+-- ---- a record
 
-  way_out : (bytes : List ℕ) (r : Result Received DropCause) → received_now s bytes ≡ r
-      → P (elim r [ Err cause ↦ dropped s cause | Ok got ↦ from_subscriber s got ])
-  way_out bytes (Err cause) e = each.drops cause
-  way_out bytes (Ok got) e =
-      let (late, opens) = test_passed (nat_lt s.floor s.clock) Settling _ got e in
-      from_subscriber_way got (ltb-true s.floor s.clock late) (is_received s.config bytes got opens)
+module _ {A : Type 0} (P : Step → Type 0) (s : State) (treat : State → A → Step) (a : Arrival A) where
+  -- what was brought, whatever that is
+  way_brought_as : (r : Result (Option A) DropCause) → a.brought ≡ r → ((kept : List PartialDatagram) → EachWay P (keeping s kept))
+      → ((x : A) → a.brought ≡ Ok (Some x) → P (treat (keeping s a.kept) x))
+      → P (elim r [ Err cause ↦ dropped (keeping s a.kept) cause | Ok None ↦ quiet (keeping s a.kept) | Ok (Some x) ↦ treat (keeping s a.kept) x ])
+  way_brought_as (Err cause) e each whole = (each a.kept).drops cause
+  way_brought_as (Ok None) e each whole = (each a.kept).rests
+  way_brought_as (Ok (Some x)) e each whole = whole x e
 
-  way_in : (bytes : List ℕ) (r : Result (Header × List ℕ) DropCause) → arrived_now s bytes ≡ r
-      → P (elim r [ Err cause ↦ dropped s cause | Ok packet ↦ from_public s packet ])
-  way_in bytes (Err cause) e = each.drops cause
-  way_in bytes (Ok packet) e =
-      let (late, opens) = test_passed (nat_lt s.floor s.clock) Settling _ packet e in
-      from_public_way packet (ltb-true s.floor s.clock late) (is_arrived s.config bytes packet opens)
+  pub way_treated : ((kept : List PartialDatagram) → EachWay P (keeping s kept))
+      → ((x : A) → a.brought ≡ Ok (Some x) → P (treat (keeping s a.kept) x)) → P (treated s a treat)
+  way_treated each whole = way_brought_as a.brought refl each whole
 
--- what holds each way holds of the treatment
-pub by_way : (P : Step → Type 0) (s : State) (bytes : List ℕ) (kind : EventKind) → EachWay P s → P (treatment s kind bytes)
-by_way P s bytes Softwire each = way_out P s each bytes (received_now s bytes) refl
-by_way P s bytes Public each = way_in P s each bytes (arrived_now s bytes) refl
-by_way P s bytes Tick each = each.rests
-by_way P s bytes Change each = each.drops BadChange
-by_way P s bytes Snapped each = each.drops (cond (nat_lt s.floor s.clock) SnappedCause Settling)
-by_way P s bytes Foreign each = each.drops (cond (nat_lt s.floor s.clock) NoProtocol Settling)
-by_way P s bytes Stray each = each.drops (cond (nat_lt s.floor s.clock) BadPacket Settling)
+module _ (P : Step → Type 0) (s : State) (bytes : List ℕ) (each : (kept : List PartialDatagram) → EachWay P (keeping s kept)) where
+  way_out : (late : Bool) → nat_lt s.floor s.clock ≡ late
+      → P (if late then treated s (softwire_arrival s.config s.clock s.kept bytes) from_subscriber else dropped s Settling)
+  way_out true e =
+      let a = softwire_arrival s.config s.clock s.kept bytes in
+      way_treated P s from_subscriber a each (λ got is. from_subscriber_way P (keeping s a.kept) (each a.kept) got (ltb-true s.floor s.clock e)
+      (softwire_brings_uncut s.config s.clock s.kept bytes got is))
+  way_out false e = (each s.kept).drops Settling
+
+  way_in : (late : Bool) → nat_lt s.floor s.clock ≡ late
+      → P (if late then treated s (public_arrival s.config s.clock s.kept bytes) from_public else dropped s Settling)
+  way_in true e =
+      let a = public_arrival s.config s.clock s.kept bytes in
+      way_treated P s from_public a each (λ packet is. from_public_way P (keeping s a.kept) (each a.kept) packet (ltb-true s.floor s.clock e)
+      (public_brings_uncut s.config s.clock s.kept bytes packet is))
+  way_in false e = (each s.kept).drops Settling
+
+-- what holds each way, whatever pieces are held, holds of the treatment
+pub by_way : (P : Step → Type 0) (s : State) (bytes : List ℕ) (kind : EventKind) → ((kept : List PartialDatagram) → EachWay P (keeping s kept))
+    → P (treatment s kind bytes)
+by_way P s bytes Softwire each = way_out P s bytes each (nat_lt s.floor s.clock) refl
+by_way P s bytes Public each = way_in P s bytes each (nat_lt s.floor s.clock) refl
+by_way P s bytes Tick each = (each s.kept).rests
+by_way P s bytes Change each = (each s.kept).drops BadChange
+by_way P s bytes Snapped each = (each s.kept).drops (cond (nat_lt s.floor s.clock) SnappedCause Settling)
+by_way P s bytes Foreign each = (each s.kept).drops (cond (nat_lt s.floor s.clock) NoProtocol Settling)
+by_way P s bytes Stray each = (each s.kept).drops (cond (nat_lt s.floor s.clock) BadPacket Settling)

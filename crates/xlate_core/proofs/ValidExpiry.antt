@@ -14,6 +14,7 @@ use Rattle.aftr_base.specs.declared.value.Moment.{Moment}
 use Rattle.aftr_base.specs.declared.value.Subscriber.{Subscriber}
 use Rattle.aftr_base.specs.declared.row.LeaseRow.{LeaseRow}
 use Rattle.aftr_base.proofs.Pairwise.{pairs_filter, pairs_map, pairs_zip, all_zip, any_zip, zip_same}
+use Rattle.frag_reasm.specs.Offers.{live}
 use Rattle.nat_mapping.specs.Rows.{Mapping}
 use Rattle.nat_mapping.specs.Rows.{in_use, is_used, live_peers, expired}
 use Rattle.xlate_core.specs.State.{State, latest}
@@ -214,7 +215,7 @@ granted_ended now rows ls ms z h = λ k d lt.
     any_zip (MayEnd now rows) lies lies (λ l m y p. stays k d lt y p) ls ms z (h k d lt)
 
 -- the rows that a later moment leaves
-pub rows_left : (s : State) (at : ℕ) → IsConsistent s → IsConsistent (record s { rows = expired at s.rows })
+pub rows_left : (s : State) (at : ℕ) → IsConsistent s → IsConsistent (record s { rows = expired at s.rows; kept = live at s.kept })
 rows_left s at v =
     let live = live_peers at in
     let all = map live s.rows in
@@ -253,4 +254,4 @@ leases_left s now le v =
 pub consistent_moment : (at : ℕ) (s : State) → IsConsistent s → IsConsistent (at_moment at s).state
 consistent_moment at s v =
     by_moment (λ (c : Closed). IsConsistent c.state) at s (λ le. v)
-    (λ lt. leases_left (record s { rows = expired at s.rows }) at (omega (arith, lt)) (rows_left s at v))
+    (λ lt. leases_left (record s { rows = expired at s.rows; kept = live at s.kept }) at (omega (arith, lt)) (rows_left s at v))

@@ -28,7 +28,7 @@ use Rattle.port_blocks.specs.declared.choice.Block.{Block}
 use Rattle.port_blocks.specs.declared.choice.Choice.TheVariants.{New}
 use Rattle.port_blocks.specs.Free.{has_ended_for, opened}
 use Rattle.port_blocks.proofs.Choices.{IsChosen, chosen}
-use Rattle.xlate_core.specs.subscriber_table.Under.{subscriber_of}
+use Rattle.subscriber_table.specs.Under.{subscriber_of}
 use Rattle.xlate_core.specs.declared.grant.Flow.{Flow}
 use Rattle.xlate_core.specs.State.{State, latest}
 use Rattle.xlate_core.specs.Valid.{AreGranted, IsConsistent, lies_in_lease, is_granted, is_owned, is_lease_by}

@@ -34,7 +34,7 @@ use Rattle.aftr_base.proofs.Founds.{found_passes, found_in, first_in, first_any,
 use Rattle.xlate_core.proofs.Attempts.{test_passed}
 use Rattle.xlate_core.proofs.ValidExpiry.{here_from, lasts_at, lies_here}
 use Rattle.xlate_core.proofs.ValidRows.{lies_at}
-use Rattle.xlate_core.specs.subscriber_table.Under.{subscriber_of}
+use Rattle.subscriber_table.specs.Under.{subscriber_of}
 use Rattle.cfg_text.specs.Accepted.{is_accepted}
 
 -- ---- the ways of a grant

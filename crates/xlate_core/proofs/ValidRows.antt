@@ -18,7 +18,7 @@ use Rattle.nat_mapping.specs.Rows.{Mapping}
 use Rattle.nat_mapping.specs.declared.row.Peer.{Peer}
 use Rattle.nat_mapping.specs.Rows.{is_at, touched_at, with_peer}
 use Rattle.xlate_core.specs.Rows.{touched}
-use Rattle.xlate_core.specs.subscriber_table.Under.{subscriber_of}
+use Rattle.subscriber_table.specs.Under.{subscriber_of}
 use Rattle.xlate_core.specs.State.{State, latest}
 use Rattle.xlate_core.specs.Valid.{AreGranted, IsConsistent, lies_in_lease, is_granted, is_owned, are_alike, clash_open, is_lease_by}
 use Rattle.xlate_core.specs.Grant.{granted}

@@ -7,6 +7,7 @@ use Rattle.aftr_base.specs.Told.{end_of}
 use Rattle.aftr_base.specs.declared.told.Told.{Told}
 use Rattle.cfg_text.specs.declared.config.Config.{Config}
 use Rattle.cfg_text.specs.Accepted.{is_accepted}
+use Rattle.frag_reasm.specs.declared.pieces.PartialDatagram.{PartialDatagram}
 use Rattle.xlate_core.specs.declared.grant.Grant.{Grant}
 use Rattle.xlate_core.specs.Outbound.{Outbound}
 use Rattle.xlate_core.specs.State.{State, Step, latest}
@@ -26,7 +27,7 @@ use Rattle.xlate_core.proofs.ValidExpiry.{closed_first, consistent_moment}
 use Rattle.xlate_core.proofs.ValidForwards.{consistent_grant, only_known, only_new}
 use Rattle.xlate_core.proofs.ValidGrants.{IsGrant}
 use Rattle.xlate_core.proofs.ValidRows.{consistent_horizon, consistent_touched}
-use Rattle.xlate_core.proofs.Treatments.{IsOut, by_way}
+use Rattle.xlate_core.proofs.Treatments.{EachWay, IsOut, by_way, keeping}
 
 pub consistent_start : {c : Config} {t : Told} → IsStart c t → IsConsistent (start c t)
 consistent_start {c = c} {t = t} h =
@@ -51,7 +52,7 @@ pub record IsBeside (s : State) (t : Step) : Type 0 where
   pub plans : t.state.plans ≡ s.plans
 
 pub treated_beside : (s : State) (bytes : List ℕ) (kind : EventKind) → IsBeside s (treatment s kind bytes)
-treated_beside s bytes kind = by_way (IsBeside s) s bytes kind (record {
+treated_beside s bytes kind = by_way (IsBeside s) s bytes kind (λ kept. record {
   rests = record { clock = refl; config = refl; floor = refl; horizon = refl; plans = refl };
   drops = λ cause. record { clock = refl; config = refl; floor = refl; horizon = refl; plans = refl };
   answers = λ got cause e is. record { clock = refl; config = refl; floor = refl; horizon = refl; plans = refl };
@@ -86,9 +87,8 @@ only_by s f g None none is v = subst IsConsistent (sym (only_new s f g none)) (c
 consistent_only : {s : State} {f : Flow} {g : Grant} → IsGrant s f g → IsConsistent s → IsConsistent (granted_only f g s)
 consistent_only {s = s} {f = f} {g = g} is v = only_by s f g (find_out f.key s.rows) refl is v
 
-pub consistent_treated : (s : State) (bytes : List ℕ) (kind : EventKind) → is_accepted s.config ≡ true → IsConsistent s
-    → IsConsistent (treatment s kind bytes).state
-consistent_treated s bytes kind ok v = by_way (λ (t : Step). IsConsistent t.state) s bytes kind (record {
+consistent_ways : (s : State) → is_accepted s.config ≡ true → IsConsistent s → EachWay (λ (t : Step). IsConsistent t.state) s
+consistent_ways s ok v = record {
   rests = v;
   drops = λ cause. v;
   answers = λ got cause e is. v;
@@ -98,7 +98,17 @@ consistent_treated s bytes kind ok v = by_way (λ (t : Step). IsConsistent t.sta
   turns = λ got g row by back.
       consistent_inbound (after_grant (flow_of got) g s) (arrival_of (turned got g)) (consistent_grant (grant_out ok by) v);
   holds = λ got g cause by refuses. consistent_only (grant_out ok by) v;
-})
+}
+
+-- whatever pieces are held
+pub consistent_keeping : {s : State} (kept : List PartialDatagram) → IsConsistent s → IsConsistent (keeping s kept)
+consistent_keeping kept v =
+    record { granted = v.granted; owned = v.owned; apart = v.apart; leases = v.leases; open_apart = v.open_apart }
+
+pub consistent_treated : (s : State) (bytes : List ℕ) (kind : EventKind) → is_accepted s.config ≡ true → IsConsistent s
+    → IsConsistent (treatment s kind bytes).state
+consistent_treated s bytes kind ok v =
+    by_way (λ (t : Step). IsConsistent t.state) s bytes kind (λ kept. consistent_ways (keeping s kept) ok (consistent_keeping kept v))
 
 -- ---- a step
 

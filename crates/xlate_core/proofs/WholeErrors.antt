@@ -22,22 +22,24 @@ use Rattle.icmp_xlate.specs.declared.made.MadeError.{MadeError}
 use Rattle.icmp_xlate.specs.Made.{error_fields, error_packet, is_error as is_error_in, made_error, sound_message}
 use Rattle.icmp_xlate.proofs.ErrorLengths.{IsError, is_error}
 use Rattle.nat_mapping.specs.Rows.{Mapping}
-use Rattle.xlate_core.specs.declared.grant.Sender.{Sender}
+use Rattle.ingress.specs.declared.received.Sender.{Sender}
 use Rattle.xlate_core.specs.declared.packet.Content.{Content}
 use Rattle.xlate_core.specs.declared.packet.Content.TheVariants.{Carries, Reports}
 use Rattle.xlate_core.specs.declared.step_out.Item.{Item}
-use Rattle.xlate_core.specs.subscriber_table.Under.{subscriber_of}
+use Rattle.subscriber_table.specs.Under.{subscriber_of}
 use Rattle.xlate_core.specs.Datagram.{Datagram, inner_place}
 use Rattle.xlate_core.specs.Content.{content_of, datagram_content, error_content, is_report}
 use Rattle.xlate_core.specs.Packet.{has_route, is_fault, is_routable, proto_from, transport_from}
 use Rattle.xlate_core.specs.Outbound.{outward}
 use Rattle.xlate_core.specs.Inbound.{inward}
 use Rattle.xlate_core.specs.Rows.{find_in, find_out}
-use Rattle.xlate_core.specs.State.{State, is_ours}
+use Rattle.ingress.specs.Packet.{IsUncut}
+use Rattle.ingress.specs.PublicSide.{is_ours}
+use Rattle.xlate_core.specs.State.{State}
 use Rattle.xlate_core.specs.Errors.{error_back, error_from_public, error_from_subscriber, error_item, error_key, error_out, quoted_row}
 use Rattle.xlate_core.proofs.Attempts.{ok_inj, step_gave, test_passed, was_there}
 use Rattle.xlate_core.proofs.Transports.{numbered}
-use Rattle.xlate_core.proofs.WholeDatagrams.{IsWholePacket, fits_abroad, length_header, length_replaced}
+use Rattle.xlate_core.proofs.WholeDatagrams.{fits_abroad, length_header, length_replaced}
 
 -- ---- an error in a packet
 
@@ -90,7 +92,7 @@ header_kept : (p : Header × List ℕ) (e : ErrorPacket) → error_of p ≡ Some
 header_kept p e h = header_by p.0 (report_of p.1) e h
 
 -- a packet that brings an error
-pub reports_whole : (p : Header × List ℕ) (e : ErrorPacket) → IsWholePacket p → content_of p ≡ Ok (Reports e) → IsError e × (p.0 ≡ e.header)
+pub reports_whole : (p : Header × List ℕ) (e : ErrorPacket) → IsUncut p → content_of p ≡ Ok (Reports e) → IsError e × (p.0 ≡ e.header)
 reports_whole p e packet h =
     let (proto, known, next) = step_gave (proto_from p.0.fields.proto) _ (Reports e) h in
     let (ttl, next') = test_passed (nat_le 2 p.0.fields.ttl) _ _ (Reports e) next in
@@ -98,7 +100,7 @@ reports_whole p e packet h =
     let message = is_message proto p.1 report in
     let icmp = subst (λ (x : Proto). proto_from p.0.fields.proto ≡ Ok x) message.icmp known in
     let one : p.0.fields.proto ≡ 1 = numbered p.0.fields.proto Icmp icmp in
-    let is = is_error p message.message e packet.plain.options one packet.plain.total message.reads message.fault there in
+    let is = is_error p message.message e packet.plain one packet.total message.reads message.fault there in
     (is, header_kept p e there)
 
 -- what a subscriber sends: it has a route, and to an address outside the pool it isn't too long
@@ -107,7 +109,7 @@ pub record IsErrorOutward (c : Config) (e : ErrorPacket) : Type 0 where
   pub routed : has_route e.header ≡ true
   pub fits : is_ours c e.header.fields.dst ≡ false → e.header.fields.total ≤ c.public_mtu
 
-pub error_outward : (c : Config) (p : Header × List ℕ) (e : ErrorPacket) → IsWholePacket p → outward c p ≡ Ok (Reports e) → IsErrorOutward c e
+pub error_outward : (c : Config) (p : Header × List ℕ) (e : ErrorPacket) → IsUncut p → outward c p ≡ Ok (Reports e) → IsErrorOutward c e
 error_outward c p e packet h =
     let f = p.0.fields in
     let short = nat_le f.total c.public_mtu in
@@ -124,7 +126,7 @@ error_outward c p e packet h =
     }
 
 -- what the public side sends
-pub error_inward : (c : Config) (p : Header × List ℕ) (e : ErrorPacket) → IsWholePacket p → inward c p ≡ Ok (Reports e) → IsError e
+pub error_inward : (c : Config) (p : Header × List ℕ) (e : ErrorPacket) → IsUncut p → inward c p ≡ Ok (Reports e) → IsError e
 error_inward c p e packet h =
     let f = p.0.fields in
     let holds = (test_passed (is_routable f.src && not (is_ours c f.src)) _ _ (Reports e) h).1 in

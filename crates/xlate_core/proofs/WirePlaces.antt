@@ -289,7 +289,7 @@ wire_grant {s = s} {f = f} {g = g} h wire =
 
 pub wire_treated : (s : State) (bytes : List ℕ) (kind : EventKind) → is_accepted s.config ≡ true
     → All IsOnWire s.leases → All IsOnWire (treatment s kind bytes).state.leases
-wire_treated s bytes kind ok h = by_way (λ (t : Step). All IsOnWire t.state.leases) s bytes kind (record {
+wire_treated s bytes kind ok h = by_way (λ (t : Step). All IsOnWire t.state.leases) s bytes kind (λ kept. record {
   rests = h;
   drops = λ cause. h;
   answers = λ got cause e is. h;

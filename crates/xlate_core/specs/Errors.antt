@@ -17,12 +17,13 @@ use Rattle.icmp_xlate.specs.declared.made.MadeError.TheVariants.{HostUnreachable
 use Rattle.icmp_xlate.specs.Made.{error_packet, is_error}
 use Rattle.icmp_xlate.specs.Errors.{ErrorPacket, error_bytes, error_place, error_proto, forwarded_error, turned_error}
 use Rattle.nat_mapping.specs.Rows.{Mapping}
-use Rattle.xlate_core.specs.declared.grant.Sender.{Sender}
+use Rattle.ingress.specs.declared.received.Sender.{Sender}
 use Rattle.xlate_core.specs.declared.step_out.Item.{Item}
 use Rattle.xlate_core.specs.Datagram.{inner_place}
-use Rattle.xlate_core.specs.Outbound.{Received}
+use Rattle.ingress.specs.declared.received.Received.{Received}
 use Rattle.xlate_core.specs.Rows.{find_in, find_out}
-use Rattle.xlate_core.specs.State.{State, is_ours, item}
+use Rattle.ingress.specs.PublicSide.{is_ours}
+use Rattle.xlate_core.specs.State.{State, item}
 
 -- ---- made (RFC 1191 4, RFC 6888 3, RFC 1122 3.2.2)
 

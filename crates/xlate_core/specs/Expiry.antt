@@ -4,6 +4,7 @@ use Rattle.std.specs.List.{list_any}
 use Rattle.aftr_base.specs.Row.{is_open, ended, block_event}
 use Rattle.aftr_base.specs.declared.row.LeaseRow.{LeaseRow}
 use Rattle.aftr_base.specs.declared.event.LogEvent.{LogEvent}
+use Rattle.frag_reasm.specs.Offers.{live}
 use Rattle.nat_mapping.specs.Rows.{Mapping}
 use Rattle.nat_mapping.specs.Rows.{in_use, expired}
 use Rattle.xlate_core.specs.State.{State}
@@ -46,8 +47,8 @@ leases_ended s = record {
   closings = closings_of closing_limit s.clock s.rows s.leases;
 }
 
--- A record whose moment is past the clock raises it: peers and rows go, and then idle leases.
+-- A record whose moment is past the clock raises it: peers, rows and old pieces go, and then idle leases.
 abbrev pub at_moment : ℕ → State → Closed
 at_moment at s =
     if nat_le at s.clock then record { state = s; closings = [] }
-    else leases_ended (record s { clock = at; rows = expired at s.rows })
+    else leases_ended (record s { clock = at; rows = expired at s.rows; kept = live at s.kept })

@@ -1,24 +1,16 @@
--- A record from the public side: the rules that refuse it, in their order, up to its mapping (RFC 6333 6.2).
-use Rattle.std.specs.Prelude.{ℕ, not, ◌&&◌, List, Result, Ok}
-use Rattle.aftr_base.specs.Attempt.{◌>>=◌, ◌>>◌, require}
+-- A whole packet from the public side: the rules that refuse it, in their order, up to its mapping (RFC 6333 6.2).
+use Rattle.std.specs.Prelude.{ℕ, not, ◌&&◌, List, Result}
+use Rattle.aftr_base.specs.Attempt.{◌>>◌, require}
 use Rattle.aftr_base.specs.declared.event.DropCause.{DropCause}
-use Rattle.aftr_base.specs.declared.event.DropCause.TheVariants.{NotUs, NoRoute, NoProtocol}
+use Rattle.aftr_base.specs.declared.event.DropCause.TheVariants.{NoRoute}
 use Rattle.cfg_text.specs.declared.config.Config.{Config}
-use Rattle.wire_ip4.specs.Grammar.{Header, is_piece}
-use Rattle.xlate_core.specs.State.{is_ours}
+use Rattle.wire_ip4.specs.Grammar.{Header}
+use Rattle.ingress.specs.PublicSide.{is_ours}
 use Rattle.xlate_core.specs.declared.packet.Content.{Content}
 use Rattle.xlate_core.specs.Content.{content_of}
-use Rattle.xlate_core.specs.Packet.{plain_ip4, is_routable}
+use Rattle.xlate_core.specs.Packet.{is_routable}
 
--- a packet to the pool, which isn't put together before
-abbrev pub arrived : Config → List ℕ → Result (Header × List ℕ) DropCause
-arrived c bytes = do
-  packet ← plain_ip4 bytes
-  require (is_ours c packet.0.fields.dst) NotUs
-  require (not (is_piece packet.0)) NoProtocol
-  Ok packet
-
--- what it brings, from a routed address outside the pool
+-- what a packet to the pool brings, from a routed address outside the pool
 abbrev pub inward : Config → Header × List ℕ → Result Content DropCause
 inward c packet = do
   let f = packet.0.fields

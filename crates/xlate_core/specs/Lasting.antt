@@ -48,7 +48,7 @@ is_refusal AddressFull = true
 is_refusal PoolEmpty = true
 is_refusal other = false
 
--- It leaves all as it was at its moment: rows, peers, leases and deadlines.
+-- It leaves all as it was at its moment, rows, peers, leases and deadlines, but for the pieces that it was put together from.
 abbrev pub EachRefusalLeavesAll : Type 0
 EachRefusalLeavesAll = (s : State) (e : Event) → IfSome (step s e).drop
-    (λ cause. is_refusal cause ≡ true → (step s e).state ≡ (at_moment e.at.0 s).state)
+    (λ cause. is_refusal cause ≡ true → (let before = (at_moment e.at.0 s).state in (step s e).state ≡ record before { kept = (step s e).state.kept }))

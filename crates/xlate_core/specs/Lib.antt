@@ -18,4 +18,3 @@ pub mod State
 pub mod Step
 pub mod Stepped
 pub mod Valid
-pub mod subscriber_table

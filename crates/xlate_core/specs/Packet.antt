@@ -7,31 +7,14 @@ use Rattle.aftr_base.specs.declared.value.Ip4.{Ip4}
 use Rattle.aftr_base.specs.declared.value.Proto.{Proto}
 use Rattle.aftr_base.specs.declared.value.Proto.TheVariants.{Tcp, Udp, Icmp}
 use Rattle.aftr_base.specs.declared.event.DropCause.{DropCause}
-use Rattle.aftr_base.specs.declared.event.DropCause.TheVariants.{BadPacket, Options, NoProtocol}
-use Rattle.wire_ip4.specs.Grammar.{Header, header_of, packet_of as ip4_packet}
+use Rattle.aftr_base.specs.declared.event.DropCause.TheVariants.{BadPacket, NoProtocol}
+use Rattle.wire_ip4.specs.Grammar.{Header}
 use Rattle.wire_icmp.specs.Grammar.{message_of}
 use Rattle.wire_icmp.specs.Quoted.{is_echo}
 use Rattle.wire_l4.specs.Grammar.{Transport, Query, header_len, transport_in, transport_of}
 use Rattle.wire_l4.specs.Places.{port_at}
 use Rattle.xlate_core.specs.declared.packet.Ends.{Ends}
 use Rattle.xlate_core.specs.Datagram.{flags_of, is_answer}
-
--- an IPv4 packet without options, and its payload
-abbrev pub plain_ip4 : List ℕ → Result (Header × List ℕ) DropCause
-plain_ip4 bytes = do
-  packet ← refused_as (ip4_packet bytes) BadPacket
-  require (length packet.0.options == 0) Options
-  Ok packet
-
--- the packet in bytes that are read as one
-abbrev pub packet_in : List ℕ → Header × List ℕ
-packet_in bytes = elim (ip4_packet bytes) [ Ok packet ↦ packet | Err bad ↦ (header_of bytes, []) ]
-
--- they are, and the packet has no options
-pub record IsPlain (bytes : List ℕ) : Type 0 where
-  pub reads : ip4_packet bytes ≡ Ok (packet_in bytes)
-  pub bare : (packet_in bytes).0.options ≡ []
-  pub total : (packet_in bytes).0.fields.total ≡ 20 + length (packet_in bytes).1
 
 -- neither this network, nor loopback, nor multicast or reserved (RFC 1122 3.2.1.3)
 abbrev pub is_routable : Ip4 → Bool

@@ -46,6 +46,7 @@ start c told = record {
   rows = [];
   leases = told.leases;
   plans = told.plans;
+  kept = [];
 }
 
 -- what a log tells that has the rows and the horizon of a state, in so many records

@@ -1,20 +1,20 @@
 -- The state of the translator, as lists in order of making.
 use Rattle.std.specs.Prelude.{ℕ, ◌+◌, Bool, nat_lt, List, Option, max}
-use Rattle.std.specs.List.{list_any}
-use Rattle.aftr_base.specs.Value.{is_under4, moment}
+use Rattle.aftr_base.specs.Value.{moment}
 use Rattle.aftr_base.specs.declared.value.Side.{Side}
 use Rattle.aftr_base.specs.declared.value.Subscriber.{Subscriber}
-use Rattle.aftr_base.specs.declared.value.Ip4.{Ip4}
 use Rattle.aftr_base.specs.declared.row.LeaseRow.{LeaseRow}
 use Rattle.aftr_base.specs.declared.row.PlanRow.{PlanRow}
 use Rattle.aftr_base.specs.declared.event.DropCause.{DropCause}
 use Rattle.aftr_base.specs.declared.event.LogEvent.{LogEvent}
 use Rattle.cfg_text.specs.declared.config.Config.{Config}
+use Rattle.frag_reasm.specs.declared.pieces.PartialDatagram.{PartialDatagram}
 use Rattle.nat_mapping.specs.Rows.{Mapping}
 use Rattle.xlate_core.specs.declared.step_out.Item.{Item}
 
 -- The clock is the greatest moment so far. A packet at or before the floor settles: up to there an earlier run may have
--- named other subscribers. The log has promised names up to the horizon. Plans are carried along: none opens yet.
+-- named other subscribers. The log has promised names up to the horizon. Plans are carried along: none opens yet. Pieces are
+-- kept of datagrams that aren't whole.
 pub record State : Type 0 where
   pub config : Config
   pub clock : ℕ
@@ -23,6 +23,7 @@ pub record State : Type 0 where
   pub rows : List Mapping
   pub leases : List LeaseRow
   pub plans : List PlanRow
+  pub kept : List PartialDatagram
 
 -- the greatest moment that a row of the state may bear
 abbrev pub latest : State → ℕ
@@ -42,10 +43,6 @@ pub record Step : Type 0 where
   pub closings : List LogEvent
   pub openings : List LogEvent
   pub drop : Option DropCause
-
--- an address of the pool
-abbrev pub is_ours : Config → Ip4 → Bool
-is_ours c a = list_any (λ p. is_under4 p a) c.pool
 
 -- a packet that leaves, at the clock's moment
 abbrev pub item : State → Side → Option Subscriber → List ℕ → Item

@@ -2,7 +2,6 @@
 use Rattle.std.specs.Prelude.{ℕ, Bool, ◌&&◌, ◌||◌, nat_lt, List, [], ◌∷◌, ◌++◌, length, Some, None, is_some}
 use Rattle.std.specs.Prelude.{true, false, Result, Ok, Err, if◌then◌else◌}
 use Rattle.std.specs.List.{list_any}
-use Rattle.aftr_base.specs.Attempt.{◌>>◌, require}
 use Rattle.aftr_base.specs.Value.{moment}
 use Rattle.aftr_base.specs.declared.value.Side.TheVariants.{Softwire as SoftwireSide, Public as PublicSide}
 use Rattle.aftr_base.specs.declared.event.Event.{Event}
@@ -22,13 +21,17 @@ use Rattle.xlate_core.specs.declared.grant.Grant.{Grant}
 use Rattle.xlate_core.specs.declared.grant.Flow.{Flow}
 use Rattle.xlate_core.specs.Arrivals.{arrival_of, receiver_of, rows_inbound}
 use Rattle.xlate_core.specs.Errors.{answer_bytes, error_about, error_from_public, error_from_subscriber}
-use Rattle.xlate_core.specs.State.{State, Step, is_ours, is_past_horizon, item, reach_of}
+use Rattle.ingress.specs.Arrival.{Arrival}
+use Rattle.ingress.specs.PublicSide.{is_ours, public_arrival}
+use Rattle.ingress.specs.SoftwireSide.{softwire_arrival}
+use Rattle.xlate_core.specs.State.{State, Step, is_past_horizon, item, reach_of}
 use Rattle.xlate_core.specs.Datagram.{Datagram, datagram_bytes, flags_of, is_answer, place_on, key_of, hairpinned, inner_place, translated}
-use Rattle.xlate_core.specs.declared.grant.Sender.{Sender}
+use Rattle.ingress.specs.declared.received.Sender.{Sender}
 use Rattle.xlate_core.specs.declared.packet.Content.{Content}
 use Rattle.xlate_core.specs.declared.packet.Content.TheVariants.{Carries, Reports}
-use Rattle.xlate_core.specs.Outbound.{Outbound, Received, outward, received_from}
-use Rattle.xlate_core.specs.Inbound.{arrived, inward}
+use Rattle.ingress.specs.declared.received.Received.{Received}
+use Rattle.xlate_core.specs.Outbound.{Outbound, outward}
+use Rattle.xlate_core.specs.Inbound.{inward}
 use Rattle.xlate_core.specs.Grant.{granted, granted_only, after_grant, opening_events}
 use Rattle.xlate_core.specs.Expiry.{at_moment}
 
@@ -139,12 +142,6 @@ content_out s got (Reports e) = relayed_if s (error_from_subscriber s got.who e)
 abbrev pub from_subscriber : State → Received → Step
 from_subscriber s got = elim (outward s.config got.packet) [ Err cause ↦ refused s got cause | Ok content ↦ content_out s got content ]
 
-abbrev pub received_now : State → List ℕ → Result Received DropCause
-received_now s bytes = require (nat_lt s.floor s.clock) Settling >> received_from s.config bytes
-
-abbrev pub outbound_step : State → List ℕ → Step
-outbound_step s bytes = elim (received_now s bytes) [ Err cause ↦ dropped s cause | Ok got ↦ from_subscriber s got ]
-
 -- ---- inbound: from the public side to the softwire of the mapping at the destination
 
 -- the datagram as it goes to the softwire of its mapping, with its TOS as the traffic class (RFC 2473 6.4)
@@ -162,13 +159,22 @@ content_in s (Reports e) = relayed_if s (error_from_public s e)
 abbrev pub from_public : State → Header × List ℕ → Step
 from_public s packet = elim (inward s.config packet) [ Err cause ↦ dropped s cause | Ok content ↦ content_in s content ]
 
-abbrev pub arrived_now : State → List ℕ → Result (Header × List ℕ) DropCause
-arrived_now s bytes = require (nat_lt s.floor s.clock) Settling >> arrived s.config bytes
+-- ---- a record
+
+-- what it brought is treated where the pieces that it left are held; a piece that is held does nothing else
+abbrev pub treated : {A : Type 0} → State → Arrival A → (State → A → Step) → Step
+treated s a treat =
+    let held = record s { kept = a.kept } in
+    elim a.brought [ Err cause ↦ dropped held cause | Ok None ↦ quiet held | Ok (Some x) ↦ treat held x ]
+
+-- from the softwire side, and from the public side; a record that settles brings nothing
+abbrev pub outbound_step : State → List ℕ → Step
+outbound_step s bytes =
+    if nat_lt s.floor s.clock then treated s (softwire_arrival s.config s.clock s.kept bytes) from_subscriber else dropped s Settling
 
 abbrev pub inbound_step : State → List ℕ → Step
-inbound_step s bytes = elim (arrived_now s bytes) [ Err cause ↦ dropped s cause | Ok packet ↦ from_public s packet ]
-
--- ---- a record
+inbound_step s bytes =
+    if nat_lt s.floor s.clock then treated s (public_arrival s.config s.clock s.kept bytes) from_public else dropped s Settling
 
 -- a record that is refused whatever its bytes are, but for the floor
 abbrev pub refused_as_kind : State → DropCause → Step

@@ -12,7 +12,7 @@ use Rattle.aftr_base.specs.declared.told.Told.{Told}
 use Rattle.cfg_text.specs.Accepted.{is_accepted}
 use Rattle.cfg_text.specs.declared.config.Config.{Config}
 use Rattle.nat_mapping.specs.Rows.{Mapping}
-use Rattle.xlate_core.specs.subscriber_table.Under.{subscriber_of}
+use Rattle.subscriber_table.specs.Under.{subscriber_of}
 use Rattle.nat_mapping.specs.Rows.{is_at}
 use Rattle.xlate_core.specs.State.{State, latest}
 

@@ -9,15 +9,14 @@ ghost use Rattle.xlate_core.specs.Step.{refused, relayed_if, with_horizon};
 ghost use Rattle.xlate_core.specs.Stepped.{HasStepped};
 
 use crate::arrival::fits_softwire;
-use crate::grant::Sender;
 use crate::inbound::inner_place;
-use crate::packet::{is_ours, require};
-use crate::received::{Packet, Received};
+use crate::packet::require;
 use crate::step_out::{Item, StepOut};
 use crate::translator::Core;
 use aftr_base::{DropCause, Ext, InnerKey, List, NoMemory, Side, Subscriber};
 use cfg_text::Config;
 use icmp_xlate::{IcmpError, MadeError, is_error, make_error};
+use ingress::{Packet, Received, Sender, is_ours};
 use std::alloc::Global;
 use wire_ip4::Ip4View;
 

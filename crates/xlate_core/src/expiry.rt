@@ -1,4 +1,4 @@
-//! What goes when the clock is raised: peers and mappings (RFC 4787 4.3), and blocks that nothing uses.
+//! What goes when the clock is raised: peers and mappings (RFC 4787 4.3), blocks that nothing uses, and old pieces.
 ghost use Rattle.std.specs.Prelude.{◌≡◌, ◌≤◌, ◌++◌, ◌&&◌, false, IfOk, OnOk};
 ghost use Rattle.std.specs.List.{AllZip};
 ghost use Rattle.aftr_base.specs.Limits.{moment_limit};
@@ -15,7 +15,7 @@ use port_blocks::Blocks;
 const CLOSING_LIMIT: u16 = 512;
 
 impl Core {
-    /// Raises the clock, where the moment is past it: peers and mappings go whose time has come, and blocks close in
+    /// Raises the clock, where the moment is past it: pieces, peers and mappings go whose time has come, and blocks close in
     /// which no mapping has its place, in order of opening and 512 of them at the most. The log is told of those. After
     /// `NoMemory`, which comes where the log gets no room, nothing is said of the state. Leases are looked through only
     /// where a row went, or where one may have been idle before.
@@ -27,6 +27,7 @@ impl Core {
             return Ok(());
         }
         self.clock = at;
+        self.kept.expire(at);
         let went = self.table.expire(at);
         if self.all_used && !went {
             return Ok(());

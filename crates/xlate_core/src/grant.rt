@@ -15,17 +15,11 @@ use crate::translator::Core;
 use aftr_base::{
     DropCause, Ext, InnerKey, Ip4, Ip6, LeaseRow, List, LogEvent, NoMemory, Proto, Subscriber,
 };
+use ingress::Sender;
 use nat_mapping::{Holding, Peer, RowId, Search, TakenPorts};
 use port_blocks::{Blocks, Choice, is_open_of, opened};
 use quota::{Usage, may_block, may_map, may_peer};
 use tcp_track::TcpState;
-
-/// A subscriber, and the softwire that it speaks through (RFC 6333).
-#[derive(Clone, Copy, Debug, PartialEq, Eq)]
-pub struct Sender {
-    pub softwire: Ip6,
-    pub owner: Subscriber,
-}
 
 /// A place, and the lease that has to open for it.
 #[derive(Clone, Copy, Debug, PartialEq, Eq)]

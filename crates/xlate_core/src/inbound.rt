@@ -5,16 +5,16 @@ ghost use Rattle.nat_mapping.specs.Rows.{Mapping, row_at};
 ghost use Rattle.xlate_core.specs.Arrivals.{arrival_of};
 ghost use Rattle.xlate_core.specs.Datagram.{inner_place};
 ghost use Rattle.xlate_core.specs.Inbound.{inward};
-ghost use Rattle.xlate_core.specs.Step.{arrived_now, content_in, delivered_bytes, from_public, inbound_step, sent_in, with_horizon};
+ghost use Rattle.xlate_core.specs.Step.{content_in, delivered_bytes, from_public, inbound_step, sent_in, with_horizon};
 ghost use Rattle.xlate_core.specs.Stepped.{HasStepped};
 ghost use Rattle.xlate_core.specs.declared.packet.Content.TheVariants.{Carries};
 
-use crate::packet::{Content, Datagram, content_of, is_ours, is_routable, require};
-use crate::received::{Packet, receive_public};
+use crate::packet::{Content, Datagram, content_of, is_routable, require};
 use crate::step_out::StepOut;
 use crate::translator::Core;
 use aftr_base::{DropCause, Ext, InnerKey, Ip6, NoMemory, Packets, Side};
 use cfg_text::Config;
+use ingress::{Packet, Refusal, is_ours};
 use nat_mapping::RowId;
 use softwire::encap;
 use std::alloc::Global;
@@ -65,18 +65,15 @@ impl Core {
             (λ cause. HasStepped
             (with_horizon (inbound_step self.old bytes.now)) out.old self.new out.new cause) }
     {
-        match self.arrived_now(bytes) {
-            Err(cause) => Ok(Some(cause)),
-            Ok(packet) => self.from_public(alloc, &packet, out),
+        if self.settles() {
+            return Ok(Some(DropCause::Settling));
         }
-    }
-
-    // the packet of a record that doesn't settle
-    fn arrived_now<'a>(&self, bytes: &'a [u8]) -> Result<Packet<'a>, DropCause>
-        ensures { result ≡ arrived_now self.now bytes.now }
-    {
-        require(self.floor.0 < self.clock.0, DropCause::Settling)?;
-        receive_public(&self.config, bytes)
+        match ingress::from_public(alloc, &self.config, &mut self.kept, self.clock, bytes) {
+            Ok(Some(packet)) => self.from_public(alloc, &packet, out),
+            Ok(None) => Ok(None),
+            Err(Refusal::Dropped(cause)) => Ok(Some(cause)),
+            Err(Refusal::NoMemory) => Err(NoMemory),
+        }
     }
 
     // a whole packet of the public side

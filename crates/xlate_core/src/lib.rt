@@ -12,13 +12,11 @@ mod inbound;
 mod laws;
 mod outbound;
 mod packet;
-mod received;
 mod start;
 mod step_out;
-mod subscriber_table;
 mod translator;
 
-pub use grant::{Grant, Sender};
+pub use grant::Grant;
 pub use laws::{log_is_believed, quotas_refuse, runs_are_valid};
 pub use step_out::{Item, StepOut};
 pub use translator::Core;

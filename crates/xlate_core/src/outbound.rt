@@ -3,19 +3,19 @@ ghost use Rattle.std.specs.Prelude.{◌≡◌, ◌+◌, [], length, Ok, Err, Non
 ghost use Rattle.nat_mapping.specs.Rows.{row_of};
 ghost use Rattle.xlate_core.specs.Datagram.{key_of};
 ghost use Rattle.xlate_core.specs.Outbound.{outward};
-ghost use Rattle.xlate_core.specs.State.{is_ours};
-ghost use Rattle.xlate_core.specs.Step.{content_out, flow_of, forwarding_step, from_subscriber, mapped, outbound_step, received_now};
+ghost use Rattle.ingress.specs.PublicSide.{is_ours};
+ghost use Rattle.xlate_core.specs.Step.{content_out, flow_of, forwarding_step, from_subscriber, mapped, outbound_step};
 ghost use Rattle.xlate_core.specs.Step.{sent_by, sent_out, with_horizon};
 ghost use Rattle.xlate_core.specs.Stepped.{HasStepped};
 ghost use Rattle.xlate_core.specs.declared.packet.Content.TheVariants.{Carries};
 
-use crate::grant::{Flow, Grant, Sender};
-use crate::packet::{Content, Datagram, content_of, has_route, is_ours, require};
-use crate::received::{Received, receive};
+use crate::grant::{Flow, Grant};
+use crate::packet::{Content, Datagram, content_of, has_route, require};
 use crate::step_out::StepOut;
 use crate::translator::Core;
 use aftr_base::{DropCause, InnerKey, NoMemory, Side};
 use cfg_text::Config;
+use ingress::{Received, Refusal, Sender, from_softwire, is_ours};
 use nat_mapping::RowId;
 use std::alloc::Global;
 use std::marker::Model;
@@ -107,18 +107,15 @@ impl Core {
             (λ cause. HasStepped
             (with_horizon (outbound_step self.old bytes.now)) out.old self.new out.new cause) }
     {
-        match self.received_now(bytes) {
-            Err(cause) => Ok(Some(cause)),
-            Ok(got) => self.from_subscriber(alloc, &got, out),
+        if self.settles() {
+            return Ok(Some(DropCause::Settling));
         }
-    }
-
-    // the packet of a record that doesn't settle
-    fn received_now<'a>(&self, bytes: &'a [u8]) -> Result<Received<'a>, DropCause>
-        ensures { result ≡ received_now self.now bytes.now }
-    {
-        require(self.floor.0 < self.clock.0, DropCause::Settling)?;
-        receive(&self.config, bytes)
+        match from_softwire(alloc, &self.config, &mut self.kept, self.clock, bytes) {
+            Ok(Some(got)) => self.from_subscriber(alloc, &got, out),
+            Ok(None) => Ok(None),
+            Err(Refusal::Dropped(cause)) => Ok(Some(cause)),
+            Err(Refusal::NoMemory) => Err(NoMemory),
+        }
     }
 
     // a whole packet of a subscriber

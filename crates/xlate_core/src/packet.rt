@@ -1,6 +1,5 @@
 //! What every packet is asked, whichever way it goes, and how it goes on (RFC 3022 4, RFC 4787 4).
 ghost use Rattle.std.specs.Prelude.{◌≡◌, ◌≤◌, ◌+◌, ◌++◌, ℕ, [], ◌==◌, drop, length, take, true, false, Err, IfErr, IfOk, Ok};
-ghost use Rattle.std.specs.List.{list_any};
 ghost use Rattle.aftr_base.specs.Attempt.{refused_as, require};
 ghost use Rattle.aftr_base.specs.Plan.{tunnel_prefix};
 ghost use Rattle.aftr_base.specs.Value.{is_under4};
@@ -13,13 +12,11 @@ ghost use Rattle.wire_l4.specs.Places.{port_at, proto_of, replaced};
 ghost use Rattle.xlate_core.specs.Arrivals.{arrival_of};
 ghost use Rattle.xlate_core.specs.Datagram.{datagram_bytes, flags_of, hairpinned, is_answer, place_on, translated};
 ghost use Rattle.xlate_core.specs.Content.{content_of, datagram_content, error_content, is_report};
-ghost use Rattle.xlate_core.specs.Packet.{ends_of, has_route, is_routable, plain_ip4, proto_from, query_from, transport_behind, transport_from};
-ghost use Rattle.xlate_core.specs.State.{is_ours};
+ghost use Rattle.xlate_core.specs.Packet.{ends_of, has_route, is_routable, proto_from, query_from, transport_behind, transport_from};
 
 use crate::arrival::Arrival;
 use aftr_base::{DropCause, Ext, Ip4, NoMemory, Prefix4, Proto, u16_in};
 use arrayvec::ArrayVec;
-use cfg_text::Config;
 use icmp_xlate::IcmpError;
 use std::alloc::Global;
 use std::marker::Model;
@@ -32,19 +29,6 @@ pub(crate) fn require(test: bool, cause: DropCause) -> Result<(), DropCause>
     ensures { result ≡ require test cause }
 {
     if test { Ok(()) } else { Err(cause) }
-}
-
-/// An IPv4 packet without options. The cause is `BadPacket` where it isn't sound, and `Options` where it has some.
-pub(crate) fn plain_ip4(bytes: &[u8]) -> Result<Ip4View<'_>, DropCause>
-    ensures value { result ≡ plain_ip4 bytes.now }
-    ensures plain { IfOk result (λ p. p.0.options ≡ []) }
-    ensures total { IfOk result (λ p. p.0.fields.total ≡ 20 + length p.1) }
-{
-    let Ok(packet) = Ip4View::read(bytes) else {
-        return Err(DropCause::BadPacket);
-    };
-    require(!packet.has_options(), DropCause::Options)?;
-    Ok(packet)
 }
 
 /// Whether an address is neither of this network, nor loopback, nor multicast or reserved (RFC 1122 3.2.1.3).
@@ -72,19 +56,6 @@ pub(crate) fn has_route(packet: &Ip4View<'_>) -> bool
 {
     let fields = packet.fields();
     is_routable(fields.src) && is_routable(fields.dst) && !is_tunnel_end(fields.dst)
-}
-
-/// Whether an address is one of the pool.
-pub(crate) fn is_ours(config: &Config, a: Ip4) -> bool
-    ensures { result ≡ is_ours config.now a }
-{
-    is_under_any(config.pool.as_slice(), a)
-}
-
-fn is_under_any(pool: &[Prefix4], a: Ip4) -> bool
-    ensures { result ≡ list_any (λ p. is_under4 p a) pool.now }
-{
-    pool.iter().any(|p| p.covers(a))
 }
 
 /// The ports of a transport, the control bits that only TCP has, and whether it is an answer to an echo request.

@@ -8,13 +8,14 @@ ghost use Rattle.xlate_core.specs.Valid.{is_closed, is_told_by};
 use crate::translator::Core;
 use aftr_base::{List, Moment, NoMemory, PlanRow, Told};
 use cfg_text::Config;
+use frag_reasm::Pieces;
 use nat_mapping::{Table, TakenPorts};
 use port_blocks::Blocks;
 use std::alloc::Global;
 
 impl Core {
     /// The state at the start, under an accepted configuration and over what a log tells, whose rows have ended and whose
-    /// moments keep to the log's limit: no mapping, and the rows and the horizon as told. Up to the end of what is told
+    /// moments keep to the log's limit: no mapping, no piece, and the rows and the horizon as told. Up to the end of what is told
     /// packets settle, since until then the log may name others for the same ports.
     pub fn start(alloc: Global, config: Config, told: &Told) -> Result<Self, NoMemory>
         requires accepted { is_accepted config ≡ true }
@@ -34,6 +35,7 @@ impl Core {
             taken,
             blocks,
             plans,
+            kept: Pieces::new(alloc),
             all_used: false,
         })
     }

@@ -1,5 +1,5 @@
 //! The translator: events to packets, one record after another.
-ghost use Rattle.std.specs.Prelude.{◌≡◌, ◌≤◌, IfOk};
+ghost use Rattle.std.specs.Prelude.{◌≡◌, ◌≤◌, nat_lt, not, IfOk};
 ghost use Rattle.aftr_base.specs.Limits.{moment_limit};
 ghost use Rattle.xlate_core.specs.State.{item};
 ghost use Rattle.xlate_core.specs.Step.{dropped, refused_as_kind, step, treatment, with_horizon};
@@ -8,6 +8,7 @@ ghost use Rattle.xlate_core.specs.Stepped.{HasStepped};
 use crate::step_out::{Item, StepOut};
 use aftr_base::{DropCause, Event, EventKind, List, Moment, NoMemory, PlanRow, Side, Subscriber};
 use cfg_text::Config;
+use frag_reasm::Pieces;
 use nat_mapping::{Table, TakenPorts};
 use port_blocks::Blocks;
 use std::alloc::Global;
@@ -27,6 +28,8 @@ pub struct Core {
     pub(crate) blocks: Blocks,
     // carried along: no run opens one yet
     pub(crate) plans: List<PlanRow>,
+    // of datagrams that aren't whole
+    pub(crate) kept: Pieces,
     // whether a row is known to have its place in each open lease, so that none is idle
     pub(crate) all_used: bool,
 }
@@ -35,6 +38,7 @@ impl Model for Core {
     ghost use Rattle.std.specs.Prelude.{◌≡◌, ◌≤◌, ◌&&◌, true, false};
     ghost use Rattle.aftr_base.specs.Limits.{moment_limit};
     ghost use Rattle.cfg_text.specs.Accepted.{is_accepted};
+    ghost use Rattle.ingress.specs.Gathering.{AreKept};
     ghost use Rattle.xlate_core.specs.State.{State};
     ghost use Rattle.xlate_core.specs.Expiry.{has_idle};
     ghost use Rattle.xlate_core.specs.Valid.{AreGranted};
@@ -49,11 +53,12 @@ impl Model for Core {
       rows = c.table.rows;
       leases = c.blocks.rows;
       plans = c.plans;
+      kept = c.kept;
     } };
 
     ghost invariant = { λ c. (is_accepted c.config ≡ true) × (c.clock.0 ≤ moment_limit)
         × ((c.all_used && has_idle c.table.rows c.blocks.rows) ≡ false)
-        × AreGranted c.table.rows c.blocks.rows };
+        × AreGranted c.table.rows c.blocks.rows × AreKept c.kept };
 }
 
 impl Core {
@@ -124,14 +129,21 @@ impl Core {
         }
     }
 
+    /// Whether packets settle at the clock.
+    pub(crate) fn settles(&self) -> bool
+        ensures { result ≡ not (nat_lt self.now.floor self.now.clock) }
+    {
+        self.clock.0 <= self.floor.0
+    }
+
     // why a record is refused whatever its bytes are
     fn refusal_as(&self, cause: DropCause) -> DropCause
         ensures { dropped self.now result ≡ refused_as_kind self.now cause }
     {
-        if self.floor.0 < self.clock.0 {
-            cause
-        } else {
+        if self.settles() {
             DropCause::Settling
+        } else {
+            cause
         }
     }
 

@@ -1,4 +1,5 @@
 use Rattle.std.proofs.Common.{◌≤◌, ◌+◌, ℕ, max, length, IfErr, OnOk, refl, sym, ap, ◌∙◌, subst, arith}
+use Rattle.plant_io.specs.Sink.{GainsPart}
 use Rattle.plant_io.specs.Stops.{StopsLeave}
 use Rattle.plant_io.specs.Story.{content, sent}
 use Rattle.plant_io.specs.Uses.{plant_use}
@@ -65,6 +66,12 @@ returns-clause-stops g c = λ tells.
     subst (λ (h : Held). StopsLeave before last (LogsFirst (told_at s) (told_then s e) (sent before) h.packets)) c.in_ok-hold.ensures.held
     (c.flush.ensures.stops tells (told_at s) (told_then s e)
     (next_follows s e c.in_ok-hold.ensures.held (c.requires.tells tells) c.requires.follows))
+
+pub returns-clause-part : goal.returns-clause-part
+returns-clause-part g c = λ tells.
+    let before = g.P.Plant.story c.args.plant.now in
+    let last = g.P.Plant.story c.flush.new.plant in
+    subst (λ (h : Held). GainsPart h.packets (sent before) (sent last)) c.in_ok-hold.ensures.held (c.flush.ensures.part tells)
 
 pub returns-clause-room : goal.returns-clause-room
 returns-clause-room g c =

@@ -64,6 +64,7 @@ invariant_of-self-2 c =
       subst (λ (rs : List Mapping). AreGranted rs leases) (sym rows_are)
           (subst (λ (ls : List LeaseRow). AreGranted (s.rows ++ row_for f p g.place ∷ []) ls) (sym leases_are)
           (granted_after s f g p all here)),
+      c.self.invariant.4,
     )
 
 pub returns : goal.returns

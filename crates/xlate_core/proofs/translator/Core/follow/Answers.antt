@@ -43,6 +43,7 @@ invariant_of-self c =
       known_touched was.all_used was.table.rows c.touch.new.self.rows was.blocks.rows at p put c.self.invariant.2,
       subst (λ (rs : List Mapping). AreGranted rs was.blocks.rows) (sym put)
           (granted_touched_at was.blocks.rows at p was.table.rows c.self.invariant.3),
+      c.self.invariant.4,
     )
 
 -- nothing moves

@@ -1,5 +1,8 @@
-use Rattle.std.proofs.Common.{◌<◌, List, refl, ap, ◌∙◌, sym, subst, arith}
+use Rattle.std.proofs.Common.{◌<◌, List, refl, ap, ap₂, ◌∙◌, sym, subst, arith}
 use Rattle.std.proofs.lemmas.Bool.{and_right}
+use Rattle.frag_reasm.specs.declared.pieces.PartialDatagram.{PartialDatagram}
+use Rattle.ingress.specs.Gathering.{AreKept}
+use Rattle.ingress.proofs.Kept.{kept_live}
 use Rattle.nat_mapping.specs.Rows.{Mapping, expired}
 use Rattle.xlate_core.specs.contracts.translator.Core.{the_view}
 use Rattle.xlate_core.specs.State.{State}
@@ -22,6 +25,7 @@ invariant_of-self c =
       and_right was.all_used (has_idle rows was.blocks.rows) none,
       subst (λ (rs : List Mapping). AreGranted rs was.blocks.rows) (sym gone)
           (granted_left c.args.at.0 was.table.rows was.blocks.rows c.self.invariant.3),
+      subst AreKept (sym c.expire.ensures) (kept_live c.args.at.0 was.kept c.self.invariant.4),
     )
 
 -- what the rows that stay are granted once idle leases ended
@@ -35,6 +39,7 @@ invariant_of-self-in_err-self-inside c =
       c.requires,
       refl,
       granted_ended c.args.at.0 rows was.blocks.rows c.close_idle.new.blocks.rows c.close_idle.ensures.ended left,
+      subst AreKept (sym c.expire.ensures) (kept_live c.args.at.0 was.kept c.self.invariant.4),
     )
 
 pub invariant_of-self-2 : goal.invariant_of-self-2
@@ -47,6 +52,7 @@ invariant_of-self-2 c =
       c.requires,
       c.in_ok-self-inside.ensures.none,
       granted_ended c.args.at.0 rows was.blocks.rows c.close_idle.new.blocks.rows c.close_idle.ensures.ended left,
+      subst AreKept (sym c.expire.ensures) (kept_live c.args.at.0 was.kept c.self.invariant.4),
     )
 
 pub returns-then-not-went : goal.returns-then-not-went
@@ -60,7 +66,9 @@ returns-then-not-went c =
     c.expire-went.ensures.gone c.if-not-went.true c.if-self.true c.self.invariant.2 in
     let lt : s.clock < at = omega (arith, c.if-at-self.false, ap (λ (x : State). x.clock) c.self.view_is) in
     let to = raised at (the_view was) in
-    let is = ap (λ (rs : List Mapping). let x : State = record to { rows = rs } in x) gone ∙ ap (raised at) c.self.view_is in
-    moved_quietly at s (let x : State = record to { rows = rows } in x) c.args.log.now lt is
+    let kept = c.expire.new.self in
+    let is = ap₂ (λ (rs : List Mapping) (ks : List PartialDatagram). let x : State = record to { rows = rs; kept = ks } in x) gone c.expire.ensures
+    ∙ ap (raised at) c.self.view_is in
+    moved_quietly at s (let x : State = record to { rows = rows; kept = kept } in x) c.args.log.now lt is
     (ap (λ (x : State). has_idle (expired at x.rows) x.leases) (sym c.self.view_is)
     ∙ ap (λ (rs : List Mapping). has_idle rs was.blocks.rows) (sym gone) ∙ none)

@@ -29,6 +29,7 @@ invariant_of-self-2 c =
       known_touched was.all_used was.table.rows rows was.blocks.rows at p put c.self.invariant.2,
       subst (λ (rs : List Mapping). AreGranted rs was.blocks.rows) (sym same)
           (granted_touched was.blocks.rows (is_of key) p was.table.rows c.self.invariant.3),
+      c.self.invariant.4,
     )
 
 pub returns : goal.returns

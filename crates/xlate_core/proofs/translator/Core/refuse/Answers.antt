@@ -3,7 +3,6 @@ use Rattle.cfg_text.specs.declared.config.Config.{Config}
 use Rattle.cfg_text.proofs.Facts.{facts}
 use Rattle.wire_ip4.specs.Grammar.{Header}
 use Rattle.xlate_core.specs.Errors.{error_about}
-use Rattle.xlate_core.specs.Outbound.{Received}
 use Rattle.xlate_core.specs.State.{State}
 use Rattle.xlate_core.proofs.Sending.{untold_so}
 use Rattle.xlate_core.proofs.translator.Core.refuse.Goals as goal
@@ -16,6 +15,6 @@ answer-requires-clause-fits c =
 pub returns-in_default : goal.returns-in_default
 returns-in_default c =
     let config = ap (λ (s : State). s.config) c.self.view_is in
-    let packet = c.view.ensures.value ∙ ap (λ (r : Received). r.packet) c.got.view_is in
+    let packet = c.view.ensures.value in
     let same = ap₂ (λ (x : Config) (p : Header × List ℕ). error_about x p c.args.cause) config packet in
     untold_so c.args.self.now c.args.got.now c.args.cause c.args.out.now (sym c.in_default.is ∙ c.error_about.ensures.value ∙ same)
