@@ -28,6 +28,8 @@ from error_cases import errors
 from log_digits import FIRST_LOG, RICH_LOG
 from log_form import EMPTY_LOG, Damaged, Told
 from model import Files
+from piece_cases import pieces
+from whole_cases import wholes
 from refusal_cases import refusals
 from streams import RUN, Session
 
@@ -162,6 +164,15 @@ def check_cases(comparison: Comparison) -> None:
             comparison.count(f"{refusal.name}, what is sent", RUN, files, found)
 
 
+def check_exchanges(comparison: Comparison) -> None:
+    """Those of packets in pieces, all of whose outlet was worked out."""
+    for exchange in (*pieces(), *wholes()):
+        files: Files = {"config": b"", "log": EMPTY_LOG, "in": b"".join(exchange.records)}
+        config = model.Config(**exchange.config)
+        left = {**model.answer(RUN, files, config).files, "out": b"".join(exchange.sent)}
+        comparison.check(exchange.name, RUN, files, model.Answer(0, exchange.report(), left), config)
+
+
 def compare_run(comparison: Comparison, label: str, rng: random.Random, session: Session, traces: int) -> None:
     """The run of an input, then what its log tells. Few runs are refused for another file than the input."""
     files: Files = {"config": b"", "log": EMPTY_LOG, "in": b"".join(session.pieces)}
@@ -293,6 +304,7 @@ def main() -> int:
             compare_stream(comparison, arguments.seed, arguments.only, arguments.traces)
         else:
             check_cases(comparison)
+            check_exchanges(comparison)
         if arguments.program is not None and arguments.only is None:
             compare_all(comparison, arguments.seed, arguments.streams, arguments.traces)
     print(f"{comparison.passed} passed, {comparison.failed} failed")

@@ -8,8 +8,8 @@ from __future__ import annotations
 
 from typing import Iterator, List, NamedTuple, Optional, Union
 
-from packets import AFTR, DONT_FRAGMENT, ECHO_REPLY, FROM_PUBLIC, FROM_SOFTWIRE, MORE_FRAGMENTS, RESERVED, Echo, Error
-from packets import Softwire, Tcp, Udp, frame, quad, softwire_of
+from packets import AFTR, DONT_FRAGMENT, ECHO_REPLY, FRAGMENT_OFFSET, FROM_PUBLIC, FROM_SOFTWIRE, MORE_FRAGMENTS, RESERVED
+from packets import Echo, Error, Softwire, Tcp, Udp, frame, quad, softwire_of
 from refusal_cases import FIRST_PACKET, MOMENT, MTU, POOL, REPLY, Changes, Fault, Refusal, error_about, granted
 from refusal_cases import with_pairs
 
@@ -184,7 +184,7 @@ def unusable(packet: Udp, echo: Echo) -> Iterator[Fault]:
 
 
 MESSAGES = [
-    Fault("a piece", "NoProtocol", {"fragment": MORE_FRAGMENTS}),
+    Fault("a piece past the longest datagram", "PieceTooLong", {"fragment": FRAGMENT_OFFSET}),
     Fault("a source that isn't routed", "NoRoute", {"source": quad("127.9.9.9")}),
     Fault("another protocol", "NoProtocol", {"proto": 47}),
     Fault("one hop", "TtlSpent", {"ttl": 1}),

@@ -3,7 +3,8 @@
 
 It is slow and short on purpose. Lists and dictionaries are searched, checksums are computed anew, and whole files are
 looked at; it shares no code and no order of work with the program. Called with the program's words it does what the
-program does on plain files. The log's bytes stand in log_form.py, those of packets in model_packets.py.
+program does on plain files. The log's bytes stand in log_form.py, those of packets in model_packets.py, pieces of packets in
+model_pieces.py.
 """
 
 from __future__ import annotations
@@ -18,9 +19,11 @@ from typing import Dict, Iterable, List, NamedTuple, Optional, Tuple
 
 import log_form
 from log_form import LAST_MOMENT, Batch, Damaged, Lease, Log, LogFull, Place, Prefix, Row, Told
-from model_packets import ACK, ECHO_REQUEST, FIN, ICMP, IPV6_HEADER, POOL, PUBLIC_MTU, RST, SOFTWIRE_MTU, SYN, TCP
-from model_packets import TIME_EXCEEDED, UDP, UNREACHABLE, Drop, encapsulated, flow_of, from_public, from_softwire
-from model_packets import is_error, made_error, moved, number, place_of, require, require_way_out, word
+from model_packets import ACK, ECHO_REQUEST, FIN, FRAGMENT, ICMP, IPV4_IN_IPV6, IPV6_HEADER, MTU, POOL, RST, SYN, TCP
+from model_packets import TIME_EXCEEDED, UDP, UNREACHABLE, Drop, behind_ipv6, behind_options, flow_of, from_public
+from model_packets import from_softwire, ipv4_packet, is_error, is_piece, made_error, moved, number, place_of, require
+from model_packets import require_way_in, require_way_out, word
+from model_pieces import Reassembly, fragment_of, piece_of, whole_packet
 
 SUBSCRIBER_LENGTH = 56
 BLOCK_SIZE = 512
@@ -37,14 +40,20 @@ LAST_INPUT_MOMENT = 4_294_963_695_999
 SOFTWIRE, PUBLIC, TICK, CHANGE = 1, 2, 3, 4
 # The causes that are given today, in the order of the report.
 CAUSES = (
-    "Settling BadPacket NotUs NotTunnel UnknownSubscriber Options NoRoute NoProtocol TtlSpent TooBig "
-    "QuotaMappings QuotaPeers QuotaBlocks AddressFull PoolEmpty NoMapping Filtered BadChange"
+    "Settling BadPacket NotUs NotTunnel UnknownSubscriber PieceTooMany PieceTooLong PieceOverlap "
+    "Options NoRoute NoProtocol TtlSpent TooBig QuotaMappings QuotaPeers QuotaBlocks "
+    "AddressFull PoolEmpty NoMapping Filtered BadChange"
 ).split()
 
-# Type, code and second word of the error that a subscriber gets for its dropped packet: Time Exceeded, Fragmentation
-# Needed with the MTU (RFC 1191 4), and Host Unreachable where there is no room (RFC 6888 3, REQ-4).
-NO_ROOM = dict.fromkeys("QuotaMappings QuotaPeers QuotaBlocks AddressFull PoolEmpty".split(), (UNREACHABLE, 1, 0))
-TOLD = {"TtlSpent": (TIME_EXCEEDED, 0, 0), "TooBig": (UNREACHABLE, 4, PUBLIC_MTU), **NO_ROOM}
+# Type and code of the error that a subscriber gets for its dropped packet: Time Exceeded, Fragmentation Needed, which has the
+# MTU for its second word (RFC 1191 4), and Host Unreachable where there is no room (RFC 6888 3, REQ-4).
+NO_ROOM = "QuotaMappings QuotaPeers QuotaBlocks AddressFull PoolEmpty".split()
+NEEDS_CUTTING = 4  # the code of Fragmentation Needed
+TOLD = {
+    "TtlSpent": (TIME_EXCEEDED, 0),
+    "TooBig": (UNREACHABLE, NEEDS_CUTTING),
+    **dict.fromkeys(NO_ROOM, (UNREACHABLE, 1)),
+}
 
 Files = Dict[str, bytes]
 
@@ -55,6 +64,8 @@ class Config(NamedTuple):
     horizon: int = 2_000  # how far past a packet the log promises names
     log_limit: int = 1 << 30
     is_by_address: bool = False  # mappings admit the addresses alone that they have a peer at (RFC 4787 5)
+    softwire_mtu: int = MTU
+    public_mtu: int = MTU
 
 
 class Inner(NamedTuple):
@@ -127,11 +138,6 @@ def idle_of(protocol: int, state: str) -> int:
     return TCP_SHORT_IDLE if state in ("Opening", "Ending") else TCP_IDLE
 
 
-def delivered(inner: Inner, packet: bytes, hops: int) -> bytes:
-    """The packet on its way to a subscriber's place, so many hops on."""
-    return encapsulated(moved(packet, False, Place(inner.address, inner.port), hops), inner.softwire)
-
-
 # ---- the input
 
 
@@ -169,6 +175,7 @@ class Translator:
         self.horizon = told.horizon
         self.mappings: Dict[Inner, Mapping] = {}
         self.leases = told.leases  # in order of opening
+        self.pieces = Reassembly()
         self.batch, self.sent = Batch(0), b""
         self.records = self.packets = 0
         self.drops: Counter[str] = Counter()
@@ -187,7 +194,7 @@ class Translator:
             self.drops[str(drop)] += 1
 
     def expire(self) -> None:
-        """Peers go at their deadline, mappings with their last peer, leases with their last mapping."""
+        """Peers go at their deadline, mappings with their last peer, leases with their last mapping, pieces after a while."""
         for mapping in self.mappings.values():
             mapping.peers = {remote: peer for remote, peer in mapping.peers.items() if peer.deadline > self.clock}
         self.mappings = {inner: mapping for inner, mapping in self.mappings.items() if mapping.peers}
@@ -196,6 +203,7 @@ class Translator:
         self.batch.closings = [lease for lease in still_open if (lease.address, lease.first) not in used][:MAX_CLOSINGS]
         for lease in self.batch.closings:
             lease.until = self.clock
+        self.pieces.expire(self.clock)
 
     def translate(self, record: Record) -> None:
         if record.kind == CHANGE:
@@ -205,29 +213,54 @@ class Translator:
         if self.clock <= self.floor:
             raise Drop("Settling")
         if record.kind == SOFTWIRE:
-            self.from_subscriber(*from_softwire(record.body))
+            softwire, packet = self.whole_from_softwire(record.body)
+            if packet is not None:
+                self.from_subscriber(softwire, packet)
         else:
-            self.inbound(from_public(record.body))
+            packet = self.whole(None, 0, from_public(record.body))
+            if packet is not None:
+                self.inbound(packet)
+
+    def whole_from_softwire(self, data: bytes) -> Tuple[int, Optional[bytes]]:
+        """The softwire of some bytes, and the packet that is whole by them, if there is one. IPv6 fragments are put together
+        before anything is seen of the packet in them (RFC 6333 5.3), and that may be a piece itself."""
+        softwire, header, payload = from_softwire(data)
+        if header == FRAGMENT:
+            found = self.pieces.offer(*fragment_of(subscriber_of(softwire), softwire, payload), self.clock)
+            if found is None:
+                return softwire, None
+            header, payload = behind_options(found.head[0], found.data)
+            require(header == IPV4_IN_IPV6, "NotTunnel")
+        return softwire, self.whole(subscriber_of(softwire), softwire, ipv4_packet(payload))
+
+    def whole(self, owner: Optional[Prefix], softwire: int, packet: bytes) -> Optional[bytes]:
+        """The packet, or that which it makes whole as its last piece to come, if it does."""
+        if not is_piece(packet):
+            return packet
+        found = self.pieces.offer(*piece_of(owner, softwire, packet), self.clock)
+        return None if found is None else whole_packet(found)
 
     def from_subscriber(self, softwire: int, packet: bytes) -> None:
         """A subscriber's packet goes out. Where it is dropped for some causes, its sender is told (RFC 6333 6.5)."""
         try:
             self.outbound(softwire, packet)
         except Drop as drop:
-            error = made_error(*TOLD[str(drop)], packet) if str(drop) in TOLD else None
-            if error is not None:
-                self.send(SOFTWIRE, encapsulated(error, softwire))
+            if str(drop) in TOLD:
+                kind, code = TOLD[str(drop)]
+                error = made_error(kind, code, self.config.public_mtu if code == NEEDS_CUTTING else 0, packet)
+                self.send_inside(softwire, error)
             raise
 
     def outbound(self, softwire: int, packet: bytes) -> None:
-        require_way_out(packet)
+        require_way_out(packet, self.config.public_mtu)
         inner = Inner(softwire, *place_of(packet, True), flow_of(packet)[9])
         mapping = self.granted(inner, packet)
         if number(packet, 16, 4) in POOL:
             self.hairpin(mapping, packet)
             return
         self.touch(mapping, packet)
-        self.send_from(mapping, PUBLIC, moved(packet, True, mapping.place))
+        self.promise()
+        self.send(PUBLIC, moved(packet, True, mapping.place))
 
     def granted(self, inner: Inner, packet: bytes) -> Mapping:
         """The mapping that is there, where it may have the packet's remote, or a new one, which has it at once. An error or an
@@ -260,17 +293,19 @@ class Translator:
         from_outside = moved(packet, True, mapping.place)
         target = self.target_of(from_outside)
         require(is_error(packet) or self.admits(target, mapping.place.address), "Filtered")
-        require(IPV6_HEADER + len(packet) <= SOFTWIRE_MTU, "NoProtocol")
+        require(IPV6_HEADER + len(packet) <= self.config.softwire_mtu, "NoProtocol")
         self.touch(mapping, packet)
         self.follow(target, from_outside)
-        self.send_from(mapping, SOFTWIRE, delivered(target.inner, from_outside, 0))
+        self.promise()
+        self.deliver(target, from_outside, 0)
 
     def inbound(self, packet: bytes) -> None:
+        require_way_in(packet)
         target = self.target_of(packet)
         require(is_error(packet) or self.admits(target, number(packet, 12, 4)), "Filtered")
-        require(IPV6_HEADER + len(packet) <= SOFTWIRE_MTU, "NoProtocol")
+        require(IPV6_HEADER + len(packet) <= self.config.softwire_mtu, "NoProtocol")
         self.follow(target, packet)
-        self.send(SOFTWIRE, delivered(target.inner, packet, 1))
+        self.deliver(target, packet, 1)
 
     def mapping_at(self, place: Place, protocol: int) -> Optional[Mapping]:
         found = [row for row in self.mappings.values() if row.place == place and row.inner.protocol == protocol]
@@ -343,9 +378,15 @@ class Translator:
         if self.horizon < self.clock:
             self.horizon = self.batch.horizon = self.clock + self.config.horizon
 
-    def send_from(self, mapping: Mapping, kind: int, packet: bytes) -> None:
-        self.promise()
-        self.send(kind, packet)
+    def deliver(self, mapping: Mapping, packet: bytes, hops: int) -> None:
+        """Sends the packet to a mapping's place, so many hops on."""
+        inner = mapping.inner
+        self.send_inside(inner.softwire, moved(packet, False, Place(inner.address, inner.port), hops))
+
+    def send_inside(self, softwire: int, packet: Optional[bytes]) -> None:
+        """Sends a packet, where there is one, into a softwire."""
+        if packet is not None:
+            self.send(SOFTWIRE, behind_ipv6(packet, IPV4_IN_IPV6, packet[1], softwire))
 
     def send(self, kind: int, packet: bytes) -> None:
         self.packets += 1

@@ -1,6 +1,6 @@
 """What the plain model reads of packets, why it refuses them, and what it changes in them.
 
-Checksums are computed anew from all the bytes that they cover.
+Checksums are computed anew from all the bytes that they cover. Pieces of packets stand in model_pieces.py.
 """
 
 from __future__ import annotations
@@ -14,7 +14,7 @@ AFTR = 0x2001_0DB8_0000_0000_0000_0000_0000_0001
 AGGREGATE = 0x2001_0DB8_0100_0000_0000_0000_0000_0000
 AGGREGATE_LENGTH = 40
 POOL = range(0xC000_0208, 0xC000_020C)  # 192.0.2.8/30
-SOFTWIRE_MTU = PUBLIC_MTU = 1500
+MTU = 1500  # of both sides, by default
 
 HOP_BY_HOP, ICMP, IPV4_IN_IPV6, TCP, UDP, FRAGMENT, DESTINATION_OPTIONS = 0, 1, 4, 6, 17, 44, 60
 IPV6_HEADER, IPV4_HEADER, ICMP_HEADER, TCP_HEADER, UDP_HEADER, FRAGMENT_HEADER = 40, 20, 8, 20, 8, 8
@@ -80,7 +80,6 @@ def behind_options(header: int, payload: bytes) -> Tuple[int, bytes]:
     while header in (HOP_BY_HOP, DESTINATION_OPTIONS):
         require(len(payload) >= 2 and len(payload) >= 8 + 8 * payload[1], "BadPacket")
         header, payload = payload[0], payload[8 + 8 * payload[1] :]
-    require(header != FRAGMENT or len(payload) >= FRAGMENT_HEADER, "BadPacket")
     return header, payload
 
 
@@ -129,40 +128,42 @@ def require_transport(packet: bytes) -> None:
         require(room >= UDP_HEADER and UDP_HEADER <= word(packet, 24) <= room, "BadPacket")
 
 
-def from_softwire(data: bytes) -> Tuple[int, bytes]:
-    """The softwire of a subscriber's packet (RFC 6333) and the packet in it, or the first drop that applies."""
+def from_softwire(data: bytes) -> Tuple[int, int, bytes]:
+    """The softwire of a subscriber's packet (RFC 6333), the header behind its options, IPv4's or a fragment's, and the bytes
+    from there on; or the first drop that applies."""
     payload = ipv6_payload(data)
     require(number(data, 24, 16) == AFTR, "NotUs")
     header, payload = behind_options(data[6], payload)
+    require(header != FRAGMENT or len(payload) >= FRAGMENT_HEADER, "BadPacket")
     require(header in (IPV4_IN_IPV6, FRAGMENT), "NotTunnel")
     softwire = number(data, 8, 16)
     require(softwire >> (128 - AGGREGATE_LENGTH) == AGGREGATE >> (128 - AGGREGATE_LENGTH), "UnknownSubscriber")
-    require(header != FRAGMENT, "NoProtocol")
-    packet = ipv4_packet(payload)
-    require(not is_piece(packet), "NoProtocol")
-    return softwire, packet
+    return softwire, header, payload
 
 
-def require_way_out(packet: bytes) -> None:
-    """What a subscriber's packet has to be before a mapping is looked for."""
+def require_way_out(packet: bytes, mtu: int) -> None:
+    """What a subscriber's packet has to be, all of it, before a mapping is looked for."""
     source, destination = number(packet, 12, 4), number(packet, 16, 4)
     is_tunnel = 0xC000_0000 <= destination <= 0xC000_0007  # 192.0.0.0/29 (RFC 6333 5.7)
     require(is_routed(source) and is_routed(destination) and not is_tunnel, "NoRoute")
     require_transport(packet)
-    is_whole = destination in POOL or len(packet) <= PUBLIC_MTU
-    require(is_whole or word(packet, 6) & DONT_FRAGMENT == 0, "TooBig")
-    require(is_whole, "NoProtocol")
+    may_pass = destination in POOL or len(packet) <= mtu or word(packet, 6) & DONT_FRAGMENT == 0
+    require(may_pass, "TooBig")
+    require(destination in POOL or len(packet) <= mtu, "NoProtocol")
 
 
 def from_public(data: bytes) -> bytes:
-    """The packet of the public side to the pool, or the first drop that applies."""
+    """The packet of the public side to the pool, or a piece of one, or the first drop that applies."""
     packet = ipv4_packet(data)
-    source, destination = number(packet, 12, 4), number(packet, 16, 4)
-    require(destination in POOL, "NotUs")
-    require(not is_piece(packet), "NoProtocol")
+    require(number(packet, 16, 4) in POOL, "NotUs")
+    return packet
+
+
+def require_way_in(packet: bytes) -> None:
+    """What a packet from outside has to be, all of it, before a mapping is looked for."""
+    source = number(packet, 12, 4)
     require(is_routed(source) and source not in POOL, "NoRoute")
     require_transport(packet)
-    return packet
 
 
 def covered(packet: bytes) -> bytes:
@@ -282,7 +283,7 @@ def made_error(kind: int, code: int, last_word: int, packet: bytes) -> Optional[
     return bytes(header + message)
 
 
-def encapsulated(packet: bytes, softwire: int) -> bytes:
-    """The packet behind an IPv6 header to a subscriber (RFC 2473)."""
-    head = struct.pack(">IHBB", 6 << 28 | packet[1] << 20, len(packet), IPV4_IN_IPV6, 64)
-    return head + AFTR.to_bytes(16, "big") + softwire.to_bytes(16, "big") + packet
+def behind_ipv6(payload: bytes, header: int, tos: int, softwire: int) -> bytes:
+    """A payload that begins with this header, behind an IPv6 header to a subscriber (RFC 2473)."""
+    head = struct.pack(">IHBB", 6 << 28 | tos << 20, len(payload), header, 64)
+    return head + AFTR.to_bytes(16, "big") + softwire.to_bytes(16, "big") + payload

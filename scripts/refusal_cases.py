@@ -9,9 +9,9 @@ from __future__ import annotations
 
 from typing import Any, Dict, Iterator, List, NamedTuple, Optional, Sequence
 
-from packets import ACK, AFTR, DONT_FRAGMENT, FIN, FROM_PUBLIC, FROM_SOFTWIRE, ICMP, MORE_FRAGMENTS, RESERVED, RST, SYN
-from packets import ECHO_REPLY, TIME_EXCEEDED, TUNNEL, UNREACHABLE, Echo, Error, Softwire, Tcp, Udp, frame, quad
-from packets import softwire_of
+from packets import ACK, AFTR, DONT_FRAGMENT, FIN, FRAGMENT_OFFSET, FROM_PUBLIC, FROM_SOFTWIRE, ICMP, MORE_FRAGMENTS
+from packets import ECHO_REPLY, RESERVED, RST, SYN, TIME_EXCEEDED, TUNNEL, UNREACHABLE, Echo, Error, Softwire, Tcp, Udp
+from packets import frame, quad, softwire_of
 
 MOMENT = 1_000_000
 FIRST_PACKET = frame(FROM_SOFTWIRE, MOMENT, Softwire().spelled())
@@ -94,9 +94,8 @@ BAD_PACKETS = [
 ]
 OPTIONS = [Fault("IPv4 options", "Options", {"options": bytes((1, 1, 1, 0))})]
 PIECES = [
-    Fault("a first piece", "NoProtocol", {"fragment": MORE_FRAGMENTS}),
-    Fault("a middle piece", "NoProtocol", {"fragment": MORE_FRAGMENTS | 1}),
-    Fault("a last piece", "NoProtocol", {"fragment": 0x1FFF}),
+    Fault("a piece of 12 bytes", "BadPacket", {"fragment": MORE_FRAGMENTS | 1}),
+    Fault("a piece past the longest datagram", "PieceTooLong", {"fragment": FRAGMENT_OFFSET}),
 ]
 UNROUTED = [
     Fault(f"a source of {text}", "NoRoute", {"source": quad(text)}) for text in ("0.0.0.1", "127.9.9.9", "224.0.0.1")
@@ -127,9 +126,12 @@ FROM_SUBSCRIBERS = [
     Fault("a Routing header behind options", "NotTunnel", around=behind(0, "2b00010400000000")),
     Fault("a source past the aggregate", "UnknownSubscriber", around={"source": softwire_of(65536)}),
     Fault("a source before the aggregate", "UnknownSubscriber", around={"source": softwire_of(0, -1)}),
-    Fault("an IPv6 fragment", "NoProtocol", around=behind(44, "0400000100000007")),
-    Fault("an IPv6 fragment behind options", "NoProtocol", around=behind(60, "2c00040104010100 3b00000000000007")),
-    Fault("an IPv6 fragment that is whole", "NoProtocol", around=behind(44, "0400000000000007")),
+    Fault("an IPv6 fragment of no bytes", "BadPacket", around={**behind(44, "0400000000000007"), "payload": 8}),
+    Fault("an IPv6 fragment of odd length", "BadPacket", around=behind(44, "04000001000000070a")),
+    Fault("an IPv6 fragment past the longest packet", "PieceTooLong", around=behind(44, "0400fff800000007")),
+    Fault("no next header in a fragment", "NotTunnel", around=behind(60, "2c00040104010100 3b00000000000007")),
+    Fault("a fragment in a fragment", "NotTunnel", around=behind(44, "2c00000000000007 0400000000000007")),
+    Fault("options past a fragment", "BadPacket", around=behind(44, "3c00000000000007 04ff000000000000")),
     *BAD_PACKETS,
     *OPTIONS,
     *PIECES,
@@ -223,7 +225,7 @@ def segments() -> Iterator[Refusal]:
 
 # ICMP: what breaks a rule of an echo message, in the order of the rules (RFC 792, RFC 5508 3).
 MESSAGES = [
-    Fault("a piece", "NoProtocol", {"fragment": MORE_FRAGMENTS}),
+    Fault("a piece past the longest datagram", "PieceTooLong", {"fragment": FRAGMENT_OFFSET}),
     Fault("a source that isn't routed", "NoRoute", {"source": quad("127.9.9.9")}),
     Fault("another protocol", "NoProtocol", {"proto": 47}),
     Fault("one hop", "TtlSpent", {"ttl": 1}),
@@ -302,10 +304,14 @@ def echoes() -> Iterator[Refusal]:
 
 
 # Pairs of neighbours that are faults of one field, and packets that a rule leaves to a later one.
+NO_BYTES: Changes = {"fragment": MORE_FRAGMENTS, "total": 20}
 MORE_FROM_SUBSCRIBERS = [
-    from_subscriber("a piece that may not be cut", "NoProtocol", {"fragment": DONT_FRAGMENT | MORE_FRAGMENTS}, {}),
+    from_subscriber("a piece of no bytes", "BadPacket", {**NO_BYTES, "ttl": 1}, {}),
+    from_subscriber("a piece that may not be cut", "BadPacket", {"fragment": DONT_FRAGMENT | MORE_FRAGMENTS}, {}),
+    from_subscriber("an odd fragment past the longest packet", "BadPacket", {"kept": 30}, behind(44, "0400fff900000007")),
+    from_subscriber("an odd piece past the longest", "BadPacket", {"fragment": MORE_FRAGMENTS | FRAGMENT_OFFSET}, {}),
+    from_subscriber("a fragment header cut in a fragment", "NotTunnel", {"kept": 7}, behind(44, "2c00000000000007")),
     from_subscriber("a cut third header", "BadPacket", {"kept": 6}, behind(0, "3c00010400000000 2c00010400000000")),
-    from_subscriber("options behind a fragment", "NoProtocol", {"ttl": 1}, behind(44, "3c00000100000007")),
     from_subscriber("a long packet to the pool", "NoMapping", {**TOO_LONG, "destination": POOL}, {}),
     from_subscriber("a bad datagram to the pool", "BadPacket", {"destination": POOL, "udp_length": 7}, {}),
     from_subscriber("neither a version nor words", "BadPacket", {"version": 0, "words": 0}, {}),
@@ -313,6 +319,8 @@ MORE_FROM_SUBSCRIBERS = [
 ]
 MORE_FROM_OUTSIDE = [
     from_outside("no byte", "BadPacket", {"kept": 0}),
+    from_outside("a piece of no bytes", "BadPacket", {**NO_BYTES, "source": quad("127.9.9.9")}),
+    from_outside("a last piece of no bytes", "BadPacket", {"fragment": 1, "total": 20}),
     from_outside("the subscribers' side", "BadPacket", {"version": 6, "words": 0}),
     from_outside("a long packet to no mapping", "NoMapping", {"port": 1023, "payload": long_payload(MTU)}),
     from_outside("a source in the pool, spent", "NoRoute", {"source": quad("192.0.2.8"), "ttl": 0}),
@@ -377,6 +385,9 @@ ROUTED = (
 ).split()
 PASSING = [
     from_subscriber("options", None, {}, behind(60, "0400040104010100")),
+    from_subscriber("an IPv6 fragment that is whole", None, {}, behind(44, "0400000000000007")),
+    from_subscriber("options around one", None, {}, behind(60, "2c00010400000000 3c00000000000007 0400010400000000")),
+    from_subscriber("one with all reserved bits", None, {}, behind(44, "04ff000600000007")),
     from_subscriber("long options", None, {}, behind(0, "3c00010400000000 0401010c" + 12 * "00")),
     from_subscriber("bytes behind the packets", None, {}, {"behind": bytes(9)}),
     from_subscriber("bytes behind the IPv4 packet", None, {}, {"inner": Udp().spelled() + bytes(5)}),

@@ -5,12 +5,12 @@ from __future__ import annotations
 import os
 import random
 import struct
-from typing import Any, Callable, Dict, List, NamedTuple, Optional, Sequence
+from typing import Any, Callable, Dict, List, NamedTuple, Optional, Sequence, Type
 
 import model
 from log_form import Place, Told
 from model import CHANGE, PUBLIC, SOFTWIRE, TICK, Inner, Mapping, Remote, Translator
-from model_packets import AFTR, ICMP, IPV6_HEADER, POOL, QUOTED, TCP, UDP, is_quoted_enough, moved, number, sum_place
+from model_packets import AFTR, ICMP, POOL, QUOTED, TCP, UDP, is_quoted_enough, moved, number, sum_place
 from model_packets import word
 from packets import ACK, DONT_FRAGMENT, FIN, RST, SYN, Echo, Error, Softwire, Tcp, Udp, checksum, softwire_of
 from refusal_cases import FROM_OUTSIDE, FROM_SUBSCRIBERS, Fault
@@ -199,6 +199,8 @@ def change_in(mapping: Mapping) -> Callable[[bytes], bytes]:
 class Session:
     """An input that grows by records. The model runs along, so that records can aim at what is live or just gone."""
 
+    long = 0.05  # the share of packets that are about as long as a side takes
+
     def __init__(self, rng: random.Random, told: Optional[Told] = None) -> None:
         self.rng = rng
         self.state = Translator(told)
@@ -239,7 +241,11 @@ class Session:
 
     def payload(self, edges: Sequence[int]) -> bytes:
         """Some bytes, seldom of one of these lengths."""
-        return self.rng.randbytes(self.rng.choice(edges if self.rng.random() < 0.05 else (0, 1, 4, 4, 5, 12)))
+        is_long = self.rng.random() < self.long
+        return self.rng.randbytes(self.long_size(edges) if is_long else self.rng.choice((0, 1, 4, 4, 5, 12)))
+
+    def long_size(self, edges: Sequence[int]) -> int:
+        return self.rng.choice(edges)
 
     def plain(self, softwire: int, port: int, moment: int, remote: int = REMOTES[0]) -> None:
         """A packet of a subscriber, for streams of many."""
@@ -276,7 +282,7 @@ class Session:
 
         def change(packet: bytes) -> bytes:
             out = moved(packet, True, mapping.place)
-            return out if target is None else model.delivered(target.inner, out, 0)[IPV6_HEADER :]
+            return out if target is None else moved(out, False, Place(target.inner.address, target.inner.port), 0)
 
         return change if self.rng.random() < 0.5 else lambda packet: moved(packet, True, mapping.place)
 
@@ -421,8 +427,8 @@ class Session:
 
     def error(self, source: int, destination: int, quoted: bytes) -> Error:
         rng = self.rng
-        if rng.random() < 0.04:  # about as long as a softwire or the public side takes
-            quoted = (quoted + bytes(1500))[: rng.choice((1432, 1433, 1472, 1473))]
+        if rng.random() < self.long:
+            quoted = (quoted + rng.randbytes(65_507))[: self.long_size((1432, 1433, 1472, 1473))]
         kind, code, last_word = rng.choice((3, 3, 3, 11, 12)), rng.choice((0, 1, 3, 4, 255)), rng.choice((0, 0x0578))
         error = Error(source, destination, quoted, kind, code, last_word, ident=rng.randrange(65536))
         fragment, tos = rng.choice((0, 0, DONT_FRAGMENT)), rng.choice((0, 0, 0xC0))
@@ -506,9 +512,9 @@ class Session:
         self.outbound()
 
 
-def ordinary(rng: random.Random, told: Optional[Told] = None) -> Session:
+def ordinary(rng: random.Random, told: Optional[Told] = None, make: Type[Session] = Session) -> Session:
     """Records of every kind, few subscribers and ports."""
-    session = Session(rng, told)
+    session = make(rng, told)
     for _ in range(rng.randint(1, 60)):
         step = rng.random()
         (session.outbound if step < 0.65 else session.reply if step < 0.88 else session.other)()
@@ -570,9 +576,9 @@ def full_pool(rng: random.Random) -> Session:
     return session
 
 
-def connections(rng: random.Random) -> Session:
+def connections(rng: random.Random, make: Type[Session] = Session) -> Session:
     """Segments of a few TCP connections, from both sides, and ticks about the ends of their peers."""
-    session = Session(rng)
+    session = make(rng)
     inners = [Inner(rng.choice(session.softwires), INNERS[0], port, TCP) for port in (5000, 5001)]
     remotes = [Remote(address, port) for address in REMOTES[:2] for port in (80, 443)]
     for _ in range(rng.randint(20, 120)):
@@ -588,9 +594,9 @@ def connections(rng: random.Random) -> Session:
     return session
 
 
-def inward(rng: random.Random) -> Session:
+def inward(rng: random.Random, make: Type[Session] = Session) -> Session:
     """Subscribers that send to each other and to themselves, by places of the pool."""
-    session = Session(rng)
+    session = make(rng)
     session.inward = 0.8
     for _ in range(rng.randint(10, 100)):
         step = rng.random()
@@ -598,9 +604,9 @@ def inward(rng: random.Random) -> Session:
     return session
 
 
-def echoes(rng: random.Random) -> Session:
+def echoes(rng: random.Random, make: Type[Session] = Session) -> Session:
     """Echo messages both ways, and between subscribers of two addresses who have the same ports there."""
-    session = Session(rng)
+    session = make(rng)
     if rng.random() < 0.5:
         for subscriber in range(128):
             session.plain(softwire_of(subscriber, 2), 5000, session.start)
@@ -619,9 +625,9 @@ def echoes(rng: random.Random) -> Session:
     return session
 
 
-def errors(rng: random.Random) -> Session:
+def errors(rng: random.Random, make: Type[Session] = Session) -> Session:
     """Errors both ways and between subscribers, about packets of all kinds, among these packets."""
-    session = Session(rng)
+    session = make(rng)
     session.inward = rng.choice((0.1, 0.7))
     if rng.random() < 0.3:
         for subscriber in range(128):

@@ -39,8 +39,8 @@ const FOR_SOFTWIRE: [Row; 7] = [
     (4345, 4347, 4),
 ];
 
-// The orders of four pieces, and of as many as there are where the other numbers are passed over.
-const ORDERS: [[usize; 4]; 24] = [
+/// The orders of four pieces, and of as many as there are where the other numbers are passed over.
+pub const ORDERS: [[usize; 4]; 24] = [
     [0, 1, 2, 3],
     [0, 1, 3, 2],
     [0, 2, 1, 3],

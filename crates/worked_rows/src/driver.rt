@@ -32,6 +32,11 @@ pub fn check<R: Abort + AllocGlobal>(rt: &R, case: &Case<'_>) {
     check_over(rt, case, &input, &log);
 }
 
+/// Checks what a case leaves over an input of these bytes, in place of its own.
+pub fn check_input<R: Abort + AllocGlobal>(rt: &R, case: &Case<'_>, input: &[u8]) {
+    check_over(rt, case, input, &case.log.bytes(rt));
+}
+
 /// Checks what each of these cases leaves where its sources are of the kind that never fails.
 pub fn check_all_without_faults<R: Abort + AllocGlobal>(rt: &R, cases: &[Case<'_>]) {
     for case in cases {

@@ -1,5 +1,5 @@
 //! Tests that cross crates: the program's one call over objects in memory, against packets, logs and reports whose
-//! bytes were worked out by hand; and packets that are cut and put together again, which the program doesn't do yet.
+//! bytes were worked out by hand; and packets that are cut, which the program doesn't do yet, put together again.
 //!
 //! A test of the program is a table of cases and one call of the driver, which makes the only call of the program.
 #![tactic(auto)]
@@ -25,9 +25,13 @@ mod faults;
 #[cfg(test)]
 mod first_path;
 #[cfg(test)]
+mod fragments;
+#[cfg(test)]
 mod grants;
 #[cfg(test)]
 mod hairpins;
+#[cfg(test)]
+mod inputs;
 #[cfg(test)]
 mod logs;
 #[cfg(test)]
@@ -41,7 +45,17 @@ mod octets;
 #[cfg(test)]
 mod packets;
 #[cfg(test)]
+mod piece_limits;
+#[cfg(test)]
+mod piece_orders;
+#[cfg(test)]
+mod piece_times;
+#[cfg(test)]
 mod pieces;
+#[cfg(test)]
+mod prefixes;
+#[cfg(test)]
+mod public_pieces;
 #[cfg(test)]
 mod queries;
 #[cfg(test)]

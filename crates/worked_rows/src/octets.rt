@@ -3,13 +3,27 @@
 use aftr_base::{List, Word};
 use std::process::Abort;
 
-/// The bytes that the hexadecimal digits of these parts say. What else stands in a part only parts the digits.
+/// The bytes that the hexadecimal digits of these parts say, where `61x1480` stands for 1,480 bytes 61. What else stands in
+/// a part only parts the digits.
 pub fn octets<R: Abort + AllocGlobal>(rt: &R, parts: &[&str]) -> Vec<u8> {
     let mut digits = Vec::new(rt.alloc());
     for part in parts {
-        add_digits(rt, &mut digits, part);
+        for word in part.split_whitespace() {
+            add_word(rt, &mut digits, word);
+        }
     }
     hex::decode(rt.alloc(), digits).expect(rt, "whole octets")
+}
+
+fn add_word<R: Abort + AllocGlobal>(rt: &R, digits: &mut Vec<u8>, word: &str) {
+    match word.split_once('x') {
+        Some((octet, count)) => {
+            for _ in 0..count.parse::<u32>().expect(rt, "a number of octets") {
+                add_digits(rt, digits, octet);
+            }
+        }
+        None => add_digits(rt, digits, word),
+    }
 }
 
 fn add_digits<R: Abort + AllocGlobal>(rt: &R, digits: &mut Vec<u8>, part: &str) {

@@ -7,7 +7,7 @@ use crate::packets::{FIRST_FRAME, OTHER, PACKET};
 use aftr_base::DropCause;
 
 /// The closing of the first packet's lease at the log's horizon, 1,002,000.
-const RECOVERED: Frame<'static> = Frame {
+pub const RECOVERED: Frame<'static> = Frame {
     horizon: None,
     blocks: &["00000000000f4a10 11 20010db8010000000000000000000000 38 c0000208 0400 05ff"],
 };
