@@ -1,9 +1,7 @@
 -- What is told of a packet that is cut.
-use Rattle.std.proofs.Common.{◌≡◌, ℕ, ◌≤◌, List, [], ◌++◌, length, refl, subst, arith}
+use Rattle.std.proofs.Common.{◌≡◌, ℕ, ◌≤◌, List, [], ◌++◌, length, subst, arith}
 use Rattle.std.specs.Prelude.{Ok}
-use Rattle.wire_ip4.specs.declared.fields.Ip4Fields.{Ip4Fields}
-use Rattle.wire_ip4.specs.Grammar.{Header, AreFields, IsHeader, header_bytes, header_with, packet_of, SpellsPacket}
-use Rattle.wire_ip4.proofs.SumLaws.{is_header_with}
+use Rattle.wire_ip4.specs.Grammar.{Header, IsHeader, header_bytes, packet_of, SpellsPacket}
 use Rattle.softwire.specs.Cut.{room_of}
 use Rattle.softwire.specs.Reading.{CutTells}
 use Rattle.softwire.proofs.Cuts.{same_read, whole_long}
@@ -24,12 +22,11 @@ tells mtu h payload room is bare short =
       short = packets_short mtu h payload (omega arith) short bare;
     }
 
--- of a packet that has just been written
-pub told_written : (mtu : ℕ) (f : Ip4Fields) (payload packet : List ℕ) → 28 ≤ mtu → AreFields f → length packet ≤ 65535
-    → packet ≡ header_bytes (header_with f) ++ payload → CutTells mtu (header_with f) payload
-told_written mtu f payload packet room are short spelled =
-    tells mtu (header_with f) payload room (is_header_with f are) refl
-    (omega (arith, short, whole_long (header_with f) payload packet refl spelled))
+-- of a packet that bytes are, whatever its checksum
+pub told_of : (mtu : ℕ) (packet : List ℕ) → 28 ≤ mtu → length packet ≤ 65535 → (h : Header) (payload : List ℕ) → IsHeader h
+    → h.options ≡ [] → packet ≡ header_bytes h ++ payload → CutTells mtu h payload
+told_of mtu packet room short h payload is bare spelled =
+    tells mtu h payload room is bare (omega (arith, short, whole_long h payload packet bare spelled))
 
 -- of a packet that bytes spell
 told_spelled : (mtu : ℕ) (bytes : List ℕ) (h : Header) (payload : List ℕ) → 28 ≤ mtu → SpellsPacket bytes h payload → h.options ≡ []

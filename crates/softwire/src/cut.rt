@@ -1,6 +1,6 @@
 //! Cutting IPv4 packets that are longer than a link takes (RFC 791 section 3.2).
 ghost use Rattle.std.specs.Prelude.{◌≡◌, ◌≤◌, ◌<◌, ◌+◌, ◌*◌, ◌/◌, ◌++◌, ◌∷◌, [], List, ℕ, false, Ok, IfOk, OnErr, OnOk, length, take, drop};
-ghost use Rattle.wire_ip4.specs.Grammar.{AreFields, Header, header_bytes, header_with, is_piece, packet_of};
+ghost use Rattle.wire_ip4.specs.Grammar.{Header, IsHeader, header_bytes, header_with, is_piece, packet_of};
 ghost use Rattle.softwire.specs.Cut.{JoinsAgain, cut_packet, ip4_pieces, piece_fields, piece_of, room_of};
 ghost use Rattle.softwire.specs.Reading.{CutTells};
 
@@ -30,42 +30,20 @@ pub fn cut4(datagram: &[u8], mtu: u16, out: &mut Packets) -> Result<(), NoMemory
         unreachable!()
     };
     let whole = front_of(datagram, 20 + packet.payload().len());
-    add_cut(&packet.fields(), whole, mtu, out)
+    cut_with(&packet.fields(), whole, mtu, out)
 }
 
-/// Adds an IPv4 packet that has just been written, with these fields and no options, cut where it is
-/// longer than `mtu` bytes: nothing of it is read back. Each piece but the last carries as many bytes as
-/// fit in units of 8, and each has a header and a checksum of its own; a packet that fits goes as it
-/// stands. Whether it may be cut isn't asked. `NoMemory` changes nothing.
+/// Adds an IPv4 packet with these fields in its header and no options, cut where it is longer than `mtu`
+/// bytes: nothing of it is read back, so that its reserved flag bit and its checksum may be any. Each piece
+/// but the last carries as many bytes as fit in units of 8, and each has a header and a checksum of its
+/// own, with its reserved flag bit 0; a packet that fits goes as it stands. Whether it may be cut isn't
+/// asked. `NoMemory` changes nothing.
 pub fn cut_with(
     fields: &Ip4Fields,
     packet: &[u8],
     mtu: u16,
     out: &mut Packets,
 ) -> Result<(), NoMemory>
-    requires written { (payload : List ℕ)
-        × (packet.now ≡ header_bytes (header_with fields.now) ++ payload) }
-    requires short { length packet.now ≤ 65535 }
-    requires mtu { 576 ≤ mtu }
-    ensures ok { OnOk result ((payload : List ℕ)
-        → packet.now ≡ header_bytes (header_with fields.now) ++ payload
-        → out.new ≡ out.old ++ cut_packet mtu (header_with fields.now) payload) }
-    ensures tells { (payload : List ℕ)
-        → packet.now ≡ header_bytes (header_with fields.now) ++ payload
-        → fields.now.offset < 8192 → CutTells mtu (header_with fields.now) payload }
-    ensures err { OnErr result (out.new ≡ out.old) }
-{
-    fit(*fields);
-    add_cut(fields, packet, mtu, out)
-}
-
-// The fields but the offset have the width that a header gives them, by their types: a proof knows it of what isn't borrowed.
-fn fit(fields: Ip4Fields)
-    ensures { fields.offset < 8192 → AreFields fields }
-{}
-
-// adds a packet whose header has these fields and no options, cut where it is longer than the MTU
-fn add_cut(fields: &Ip4Fields, packet: &[u8], mtu: u16, out: &mut Packets) -> Result<(), NoMemory>
     requires packet { (h : Header) × (payload : List ℕ) × (h.fields ≡ fields.now)
         × (h.options ≡ []) × (packet.now ≡ header_bytes h ++ payload) }
     requires short { length packet.now ≤ 65535 }
@@ -73,6 +51,8 @@ fn add_cut(fields: &Ip4Fields, packet: &[u8], mtu: u16, out: &mut Packets) -> Re
     ensures ok { OnOk result ((h : Header) (payload : List ℕ)
         → h.fields ≡ fields.now → h.options ≡ [] → packet.now ≡ header_bytes h ++ payload
         → out.new ≡ out.old ++ cut_packet mtu h payload) }
+    ensures tells { (h : Header) (payload : List ℕ)
+        → IsHeader h → h.options ≡ [] → packet.now ≡ header_bytes h ++ payload → CutTells mtu h payload }
     ensures err { OnErr result (out.new ≡ out.old) }
 {
     let alloc = out.allocator();

@@ -7,7 +7,7 @@ use aftr_base::{Ip4, Ip6, NoMemory, Packets};
 use arrayvec::ArrayVec;
 use std::alloc::Global;
 use std::test::Fail;
-use wire_ip4::{Ip4Fields, Ip4View, write_header};
+use wire_ip4::{Ip4Bad, Ip4Fields, Ip4View, write_header};
 
 // the fields of a UDP packet of so many bytes behind its header
 fn fields(len: u16) -> Ip4Fields
@@ -56,6 +56,20 @@ fn cut(bytes: &[u8], mtu: u16, out: &mut Packets) -> Result<bool, NoMemory>
         return Ok(false);
     }
     cut4(bytes, mtu, out)?;
+    Ok(true)
+}
+
+// cuts the packet that these bytes are, whatever its checksum, and tells whether its header has no options
+fn cut_unread(bytes: &[u8], mtu: u16, out: &mut Packets) -> Result<bool, NoMemory>
+    requires { 576 ≤ mtu }
+{
+    let Ok(view) = Ip4View::front(bytes) else {
+        return Ok(false);
+    };
+    if view.has_options() || bytes.len() > 65535 {
+        return Ok(false);
+    }
+    cut_with(&view.fields(), bytes, mtu, out)?;
     Ok(true)
 }
 
@@ -122,6 +136,33 @@ fn a_packet_for_the_public_side(rt: HostRuntime) -> Result<(), Fail> {
 fn a_packet_just_written(rt: HostRuntime) -> Result<(), Fail> {
     for (len, count) in [(0, 1), (556, 1), (557, 2), (1104, 2), (1105, 3), (2000, 4)] {
         assert!(rt; is_cut_alike(rt.alloc(), len, count)?, "{len} bytes");
+    }
+    Ok(())
+}
+
+#[test]
+fn a_reserved_bit_and_an_unsound_sum(rt: HostRuntime) -> Result<(), Fail> {
+    let ends = [203, 0, 113, 5, 192, 0, 2, 8];
+    let mut bytes = Vec::from_slice(
+        rt.alloc(),
+        &[0x45, 0x28, 2, 0x41, 0, 9, 0x80, 0, 64, 17, 1, 2],
+    )?;
+    bytes.extend_from_slice(&ends)?;
+    bytes.extend_from_slice(&[7; 557])?;
+    assert!(rt; matches!(Ip4View::read(&bytes), Err(Ip4Bad::Sum)));
+    let mut out = Packets::new(rt.alloc());
+    assert!(rt; cut_unread(&bytes, 577, &mut out)?);
+    assert!(rt; cut_unread(&bytes, 576, &mut out)?);
+    let packets = out.into_vec();
+    match packets.as_slice() {
+        [whole, first, second] => {
+            assert!(rt; whole.as_slice() == bytes.as_slice());
+            assert_eq!(rt; shape(first), (572, 0, true));
+            assert!(rt; has_at(first, 4, &[0, 9, 0x20, 0, 64, 17]));
+            assert_eq!(rt; shape(second), (25, 69, false));
+            assert!(rt; has_at(second, 4, &[0, 9, 0, 69, 64, 17]));
+        }
+        _ => assert!(rt; false),
     }
     Ok(())
 }

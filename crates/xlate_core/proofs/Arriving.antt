@@ -16,9 +16,8 @@ use Rattle.xlate_core.proofs.Transports.{proto_in, proto_kept, source_put}
 
 -- part by part
 pub arrival_is : (a : Arrival) (d : Datagram) → a.proto ≡ proto_of d.body → a.from ≡ place_on true d → a.to ≡ place_on false d
-    → a.total ≡ d.header.fields.total → a.flags ≡ flags_of d.body → a ≡ arrival_of d
-arrival_is a d proto from to total flags =
-    λ i. record { proto = proto i; from = from i; to = to i; total = total i; flags = flags i }
+    → a.flags ≡ flags_of d.body → a ≡ arrival_of d
+arrival_is a d proto from to flags = λ i. record { proto = proto i; from = from i; to = to i; flags = flags i }
 
 -- the port on the destination's side after the source was replaced
 abbrev pub port_then : Proto → Ext → ℕ → ℕ

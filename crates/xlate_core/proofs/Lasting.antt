@@ -9,7 +9,7 @@ use Rattle.aftr_base.specs.Value.{ip4_eq}
 use Rattle.aftr_base.specs.declared.event.Event.{Event}
 use Rattle.aftr_base.specs.declared.event.EventKind.{EventKind}
 use Rattle.aftr_base.specs.declared.event.DropCause.{DropCause}
-use Rattle.aftr_base.specs.declared.event.DropCause.TheVariants.{NoProtocol, NoMapping, Filtered}
+use Rattle.aftr_base.specs.declared.event.DropCause.TheVariants.{NoMapping, Filtered}
 use Rattle.aftr_base.specs.declared.value.Ext.{Ext}
 use Rattle.aftr_base.specs.declared.value.InnerKey.{InnerKey}
 use Rattle.nat_mapping.specs.declared.row.Peer.{Peer}
@@ -244,20 +244,17 @@ each_use_lasts s events key ext remote u = lasts_run key ext remote s events u
 err_inj : {A : Type 0} (x y : DropCause) (r : Result A DropCause) → r ≡ Err x → r ≡ Err y → x ≡ y
 err_inj x y r h k = cc
 
-tests_by : (admits fits : Bool) (row : Mapping) (cause : DropCause)
-    → (require admits Filtered >> (require fits NoProtocol >> Ok row)) ≡ Err cause → is_refusal cause ≡ false
-tests_by false fits row cause h = subst (λ (x : DropCause). is_refusal x ≡ false) (err_inj Filtered cause _ refl h) refl
-tests_by true false row cause h = subst (λ (x : DropCause). is_refusal x ≡ false) (err_inj NoProtocol cause _ refl h) refl
-tests_by true true row cause h = cc
+test_by : (admits : Bool) (row : Mapping) (cause : DropCause) → (require admits Filtered >> Ok row) ≡ Err cause → is_refusal cause ≡ false
+test_by false row cause h = subst (λ (x : DropCause). is_refusal x ≡ false) (err_inj Filtered cause _ refl h) refl
+test_by true row cause h = cc
 
-other_by : (o : Option Mapping) (admits : Mapping → Bool) (fits : Bool) (cause : DropCause)
-    → (ok_or o NoMapping >>= (λ row. require (admits row) Filtered >> (require fits NoProtocol >> Ok row))) ≡ Err cause
-    → is_refusal cause ≡ false
-other_by None admits fits cause h = subst (λ (x : DropCause). is_refusal x ≡ false) (err_inj NoMapping cause _ refl h) refl
-other_by (Some row) admits fits cause h = tests_by (admits row) fits row cause h
+other_by : (o : Option Mapping) (admits : Mapping → Bool) (cause : DropCause)
+    → (ok_or o NoMapping >>= (λ row. require (admits row) Filtered >> Ok row)) ≡ Err cause → is_refusal cause ≡ false
+other_by None admits cause h = subst (λ (x : DropCause). is_refusal x ≡ false) (err_inj NoMapping cause _ refl h) refl
+other_by (Some row) admits cause h = test_by (admits row) row cause h
 
 other_cause : (s : State) (a : Arrival) (cause : DropCause) → receiver_of s a ≡ Err cause → is_refusal cause ≡ false
-other_cause s a cause h = other_by (find_in a.proto a.to s.rows) _ _ cause h
+other_cause s a cause h = other_by (find_in a.proto a.to s.rows) _ cause h
 
 abbrev LeavesAll : State → Step → Type 0
 LeavesAll s t =

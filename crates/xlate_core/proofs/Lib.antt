@@ -6,11 +6,13 @@ pub mod Closings
 pub mod Connections
 pub mod Datagrams
 pub mod Disjoint
+pub mod FirstPieces
 pub mod Holders
 pub mod IdleLeases
 pub mod KeptTold
 pub mod Lasting
 pub mod LeasesOver
+pub mod Leaving
 pub mod LogNumbers
 pub mod LogTells
 pub mod Middles
@@ -20,6 +22,7 @@ pub mod Packets
 pub mod Passed
 pub mod Positions
 pub mod Reached
+pub mod Relaying
 pub mod Runs
 pub mod Sending
 pub mod Settings

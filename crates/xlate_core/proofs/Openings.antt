@@ -41,7 +41,15 @@ opens_treated s bytes kind ok = by_way (Opens s) s bytes kind (λ kept. record {
   rests = opens_none s kept _ refl refl refl;
   drops = λ cause. opens_none s kept _ refl refl refl;
   answers = λ got cause e is. opens_none s kept _ refl refl refl;
-  relays = λ i is. opens_none s kept _ refl refl refl;
+  relays = λ sent is. record {
+    config = refl;
+    clock = refl;
+    closings = refl;
+    lease = None;
+    openings = refl;
+    leases = sym (append-nil s.leases);
+    new = tt;
+  };
   delivers = λ d row by. record {
     config = refl;
     clock = refl;

@@ -17,18 +17,22 @@ use Rattle.xlate_core.specs.declared.grant.Grant.{Grant}
 use Rattle.ingress.specs.declared.received.Sender.{Sender}
 use Rattle.xlate_core.specs.declared.step_out.Item.{Item}
 use Rattle.xlate_core.specs.State.{State, Step, item}
-use Rattle.softwire.specs.Tunnel.{tunnel_fields}
+use Rattle.softwire.specs.Cut.{cut_packet}
+use Rattle.wire_icmp.specs.Quoted.{report_bytes}
+use Rattle.wire_ip4.specs.Grammar.{Header}
+use Rattle.wire_l4.specs.Grammar.{transport_bytes}
 use Rattle.icmp_xlate.specs.Errors.{ErrorPacket, error_bytes, forwarded_error, turned_error}
 use Rattle.icmp_xlate.proofs.ErrorLengths.{IsError}
 use Rattle.icmp_xlate.proofs.ErrorPlaces.{ShowsIdentifier, ShowsPlace, error_kinds, identifier_out, shows_back, shows_out}
 use Rattle.nat_mapping.specs.Rows.{Mapping}
 use Rattle.xlate_core.specs.Packet.{is_fault}
-use Rattle.xlate_core.specs.Sources.{inner_at, is_query_at, sender_of, shows_by, source_of}
+use Rattle.xlate_core.specs.Sources.{inner_at, is_first, is_query_at, sender_of, shows_by, source_of}
 use Rattle.xlate_core.specs.Datagram.{datagram_bytes, hairpinned, inner_place, translated}
+use Rattle.xlate_core.specs.Sending.{Sending, public_items, softwire_items}
 use Rattle.xlate_core.specs.Outbound.{Outbound}
 use Rattle.xlate_core.specs.Expiry.{at_moment}
-use Rattle.xlate_core.specs.Errors.{answer_bytes, error_item, error_key, error_out}
-use Rattle.xlate_core.specs.Step.{step, treatment, sent_out, sent_back, held_back, delivered_bytes, hairpin_bytes}
+use Rattle.xlate_core.specs.Errors.{answer_bytes, error_in, error_key, error_out}
+use Rattle.xlate_core.specs.Step.{step, treatment, sent_out, sent_back, held_back, turned}
 use Rattle.xlate_core.specs.Run.{run, start}
 use Rattle.xlate_core.specs.Valid.{AreDisjoint, IsConsistent, IsStart}
 use Rattle.xlate_core.proofs.Disjoint.{disjoint_run}
@@ -37,18 +41,17 @@ use Rattle.xlate_core.proofs.LeasesOver.{AreLater, later_run}
 use Rattle.xlate_core.proofs.Reached.{IsReached, reached_keeping, reached_moment, reached_start, reached_step}
 use Rattle.xlate_core.proofs.ValidForwards.{place_granted, row_lies}
 use Rattle.xlate_core.proofs.ValidStates.{grant_out}
-use Rattle.xlate_core.proofs.WirePlaces.{address_back, address_out, behind_address, behind_port, behind_query, no_query_back, place_fits}
-use Rattle.xlate_core.proofs.WirePlaces.{port_back, port_by, port_in, port_out, wire_grant}
+use Rattle.xlate_core.proofs.FirstPieces.{from_public, from_softwire}
+pub use Rattle.xlate_core.proofs.FirstPieces.{IsFromLease}
+use Rattle.xlate_core.proofs.Leaving.{all_of, packets_in}
+use Rattle.xlate_core.proofs.WirePlaces.{address_back, address_out, no_query_back, place_fits, port_back, port_by, port_in, port_out, wire_grant}
 use Rattle.xlate_core.proofs.Packets.{sent_outward}
 use Rattle.xlate_core.proofs.Treatments.{EachWay, IsOut, by_way, keeping}
-use Rattle.xlate_core.proofs.WholeErrors.{GoesIn, GoesOut, IsRelayed, IsSentError, TurnsBack}
+use Rattle.xlate_core.proofs.WholeDatagrams.{length_body, length_hairpinned}
+use Rattle.xlate_core.proofs.WholeErrors.{GoesIn, GoesOut, IsRelayed, IsSentError, TurnsBack, length_quoting, length_turned}
 use Rattle.xlate_core.proofs.ValidRows.{lies_at}
 
 -- ---- a packet's source
-
--- a subscriber's packet has its source in an open lease of the subscriber
-abbrev pub IsFromLease : List LeaseRow → Item → Type 0
-IsFromLease leases i = IfSome (sender_of i) (λ (owner : Subscriber). lies_at leases owner (source_of i) ≡ true)
 
 -- the place of a grant is in an open lease of the sender then, and fits into the headers
 placed : {s : State} {got : Outbound} {g : Grant} → IsReached s → IsOut s got g
@@ -61,14 +64,16 @@ placed {s = s} {got = got} {g = g} h by =
     (there, fits.0, fits.1)
 
 source_out : {s : State} {got : Outbound} {g : Grant} → IsReached s → IsOut s got g
-    → lies_at (s.leases ++ option_to_list g.lease) got.who.owner
-    (source_of (item s PublicSide (Some got.who.owner) (datagram_bytes (translated true g.place got.datagram)))) ≡ true
+    → All (IsFromLease (s.leases ++ option_to_list g.lease)) (sent_out s got g).items
 source_out {s = s} {got = got} {g = g} h by =
     let after = s.leases ++ option_to_list g.lease in
+    let sent = turned got g in
+    let whole = (sent_outward by).whole in
     let (there, low, high) = placed h by in
     let addr = address_out g.place got.datagram low in
-    let port = port_out g.place got.datagram (sent_outward by).whole high in
-    ap₂ (λ (a p : ℕ). lies_at after got.who.owner (place (ip4 a) p)) addr port ∙ there
+    let port = port_out g.place got.datagram whole high in
+    from_public after s got.who.owner sent.header (transport_bytes sent.body) h.accepted whole.options (length_body true g.place got.datagram whole)
+    (ap₂ (λ (a p : ℕ). lies_at after got.who.owner (place (ip4 a) p)) addr port ∙ there)
 
 -- one of nobody's has none
 nobody : (P : Subscriber → Type 0) (shows : Bool) → IfSome (if shows then None else None) P
@@ -77,32 +82,24 @@ nobody P false = tt
 
 nobodys : (leases : List LeaseRow) (i : Item) → i.owner ≡ None → IsFromLease leases i
 nobodys leases i none =
-    let shows = shows_by i.side (is_query_at (inner_at i.side) i.bytes) in
+    let shows = is_first i.side i.bytes && shows_by i.side (is_query_at (inner_at i.side i.bytes) i.bytes) in
     let P = λ (owner : Subscriber). lies_at leases owner (source_of i) ≡ true in
     subst (λ (o : Option Subscriber). IfSome (if shows then o else None) P) (sym none) (nobody P shows)
 
 -- a packet between subscribers shows it, unless that is an identifier
-shown_by : (P : Subscriber → Type 0) (owner : Subscriber) (query : Bool) → (query ≡ false → P owner)
-    → IfSome (if not query then Some owner else None) P
-shown_by P owner true h = tt
-shown_by P owner false h = h refl
-
 source_back : {s : State} {got : Outbound} {g : Grant} (row : Mapping) → IsReached s → IsOut s got g
-    → IsFromLease (s.leases ++ option_to_list g.lease) (item s SoftwireSide (Some got.who.owner) (hairpin_bytes s got g row))
+    → All (IsFromLease (s.leases ++ option_to_list g.lease)) (sent_back s got g row).items
 source_back {s = s} {got = got} {g = g} row h by =
     let after = s.leases ++ option_to_list g.lease in
     let d = got.datagram in
     let place_in = inner_place row.key in
-    let inner = datagram_bytes (hairpinned g.place place_in d) in
-    let f = tunnel_fields s.config.aftr row.key.softwire d.header.fields.tos 4 (length inner) in
-    let sent = item s SoftwireSide (Some got.who.owner) (hairpin_bytes s got g row) in
-    let (there, low, high) = placed h by in
-    shown_by (λ (owner : Subscriber). lies_at after owner (source_of sent) ≡ true) got.who.owner
-    (is_query_at 40 (hairpin_bytes s got g row)) (λ none.
     let whole = (sent_outward by).whole in
-    let ports = no_query_back g.place place_in d whole (sym (behind_query f inner) ∙ none) in
-    let addr = behind_address f inner ∙ address_back g.place place_in d low in
-    let port = behind_port f inner ∙ port_back g.place place_in d whole ports high in
+    let (there, low, high) = placed h by in
+    from_softwire after s got.who.owner row d.header.fields.tos (datagram_bytes (hairpinned g.place place_in d)) h.accepted
+    (omega (arith, length_hairpinned g.place place_in d whole, whole.short)) (λ none.
+    let ports = no_query_back g.place place_in d whole none in
+    let addr = address_back g.place place_in d low in
+    let port = port_back g.place place_in d whole ports high in
     ap₂ (λ (a p : ℕ). lies_at after got.who.owner (place (ip4 a) p)) addr port ∙ there)
 
 -- ---- an error that is passed on
@@ -139,39 +136,67 @@ shown_port new e bytes false is shows known id =
     ∙ shows.port known
 
 source_error_out : {s : State} {who : Sender} {row : Mapping} {e : ErrorPacket} → IsReached s → IsSentError s who row e
-    → IsFromLease s.leases (error_out s who row e)
+    → All (IsFromLease s.leases) (error_out s who row e).items
 source_error_out {s = s} {who = who} {row = row} {e = e} h is =
     let (there, low, high) = error_placed h is in
-    let bytes = error_bytes (forwarded_error true row.ext e) in
-    let shows = shows_out row.ext e is.sends.is low high in
-    let port = shown_port row.ext e bytes (u8_at 37 bytes == 1) is.sends.is shows refl (λ about. identifier_out row.ext e is.sends.is low high) in
-    ap₂ (λ (a p : ℕ). lies_at s.leases who.owner (place (ip4 a) p)) shows.address port ∙ there
+    let whole = is.sends.whole in
+    let out = forwarded_error true row.ext e in
+    let bytes = error_bytes out in
+    let shows = shows_out row.ext e whole.is low high in
+    let port = shown_port row.ext e bytes (u8_at 37 bytes == 1) whole.is shows refl (λ about. identifier_out row.ext e whole.is low high) in
+    from_public s.leases s who.owner out.header (report_bytes out.report) h.accepted whole.is.bare (length_quoting true row.ext e whole)
+    (ap₂ (λ (a p : ℕ). lies_at s.leases who.owner (place (ip4 a) p)) shows.address port ∙ there)
 
 -- between subscribers, where that isn't an identifier
 source_error_back : {s : State} {who : Sender} {row : Mapping} {e : ErrorPacket} (to : Mapping) → IsReached s → IsSentError s who row e
-    → IsFromLease s.leases (error_item s (Some who.owner) to (turned_error row.ext (inner_place to.key) e))
+    → All (IsFromLease s.leases) (error_in s (Some who.owner) to (turned_error row.ext (inner_place to.key) e)).items
 source_error_back {s = s} {who = who} {row = row} {e = e} to h is =
     let (there, low, high) = error_placed h is in
+    let whole = is.sends.whole in
     let inner = error_bytes (turned_error row.ext (inner_place to.key) e) in
-    let f = tunnel_fields s.config.aftr to.key.softwire e.header.fields.tos 4 (length inner) in
-    let sent = error_item s (Some who.owner) to (turned_error row.ext (inner_place to.key) e) in
-    let shows = shows_back row.ext e is.sends.is low high (inner_place to.key) in
-    shown_by (λ (owner : Subscriber). lies_at s.leases owner (source_of sent) ≡ true) who.owner
-    (is_query_at 40 sent.bytes) (λ none.
-    let about = ports_quoted e inner is.sends.is shows (sym (behind_query f inner) ∙ none) in
-    let addr = behind_address f inner ∙ shows.address in
-    let port = behind_port f inner ∙ shown_port row.ext e inner false is.sends.is shows about (λ other. cc) in
-    ap₂ (λ (a p : ℕ). lies_at s.leases who.owner (place (ip4 a) p)) addr port ∙ there)
+    let shows = shows_back row.ext e whole.is low high (inner_place to.key) in
+    from_softwire s.leases s who.owner to e.header.fields.tos inner h.accepted
+    (omega (arith, length_turned row.ext (inner_place to.key) e whole.is, whole.short)) (λ none.
+    let about = ports_quoted e inner whole.is shows none in
+    let port = shown_port row.ext e inner false whole.is shows about (λ other. cc) in
+    ap₂ (λ (a p : ℕ). lies_at s.leases who.owner (place (ip4 a) p)) shows.address port ∙ there)
 
-source_relayed : {s : State} {i : Item} → IsReached s → IsRelayed s i → IsFromLease s.leases i
-source_relayed {s = s} h (GoesOut who row e same is abroad) = subst (IsFromLease s.leases) (sym same) (source_error_out h is)
-source_relayed {s = s} h (TurnsBack who row to e same is fits) = subst (IsFromLease s.leases) (sym same) (source_error_back to h is)
-source_relayed {s = s} {i = i} h (GoesIn row e same is fits) = nobodys s.leases i (ap (λ (x : Item). x.owner) same)
+nobodys_in : (leases : List LeaseRow) (s : State) (row : Mapping) (class : ℕ) (inner : List ℕ)
+    → All (IsFromLease leases) (softwire_items s None row class inner)
+nobodys_in leases s row class inner =
+    all_of (IsFromLease leases) (item s SoftwireSide None) (packets_in s row class inner) (λ bytes. nobodys leases (item s SoftwireSide None bytes) refl)
 
-at_relayed : {s : State} {i : Item} → IsRelayed s i → i.at.0 ≡ s.clock
-at_relayed (GoesOut who row e same is abroad) = ap (λ (x : Item). x.at.0) same
-at_relayed (TurnsBack who row to e same is fits) = ap (λ (x : Item). x.at.0) same
-at_relayed (GoesIn row e same is fits) = ap (λ (x : Item). x.at.0) same
+source_relayed : {s : State} {sent : Sending} → IsReached s → IsRelayed s sent → All (IsFromLease s.leases) sent.items
+source_relayed {s = s} h (GoesOut who row e same is abroad) =
+    subst (λ (x : Sending). All (IsFromLease s.leases) x.items) (sym same) (source_error_out h is)
+source_relayed {s = s} h (TurnsBack who row to e same is) =
+    subst (λ (x : Sending). All (IsFromLease s.leases) x.items) (sym same) (source_error_back to h is)
+source_relayed {s = s} h (GoesIn row e same is) =
+    subst (λ (x : Sending). All (IsFromLease s.leases) x.items) (sym same)
+    (nobodys_in s.leases s row e.header.fields.tos (error_bytes (forwarded_error false (inner_place row.key) e)))
+
+-- a packet bears the clock of its step
+abbrev pub IsAt : ℕ → Item → Type 0
+IsAt now i = i.at.0 ≡ now
+
+at_public : (s : State) (owner : Subscriber) (h : Header) (payload : List ℕ) → All (IsAt s.clock) (public_items s owner h payload)
+at_public s owner h payload =
+    all_of (IsAt s.clock) (item s PublicSide (Some owner)) (cut_packet s.config.public_mtu h payload) (λ bytes. refl)
+
+at_softwire : (s : State) (owner : Option Subscriber) (row : Mapping) (class : ℕ) (inner : List ℕ)
+    → All (IsAt s.clock) (softwire_items s owner row class inner)
+at_softwire s owner row class inner = all_of (IsAt s.clock) (item s SoftwireSide owner) (packets_in s row class inner) (λ bytes. refl)
+
+at_relayed : {s : State} {sent : Sending} → IsRelayed s sent → All (IsAt s.clock) sent.items
+at_relayed {s = s} (GoesOut who row e same is abroad) =
+    subst (λ (x : Sending). All (IsAt s.clock) x.items) (sym same)
+    (at_public s who.owner (forwarded_error true row.ext e).header (report_bytes (forwarded_error true row.ext e).report))
+at_relayed {s = s} (TurnsBack who row to e same is) =
+    subst (λ (x : Sending). All (IsAt s.clock) x.items) (sym same)
+    (at_softwire s (Some who.owner) to e.header.fields.tos (error_bytes (turned_error row.ext (inner_place to.key) e)))
+at_relayed {s = s} (GoesIn row e same is) =
+    subst (λ (x : Sending). All (IsAt s.clock) x.items) (sym same)
+    (at_softwire s None row e.header.fields.tos (error_bytes (forwarded_error false (inner_place row.key) e)))
 
 one_item : (P : Item → Type 0) (i : Item) → P i → All P (i ∷ [])
 one_item P i h = All-cons P i [] h (All-nil P)
@@ -182,14 +207,10 @@ source_ways s h = record {
   rests = All-nil (IsFromLease s.leases);
   drops = λ cause. All-nil (IsFromLease s.leases);
   answers = λ got cause e is. one_item (IsFromLease s.leases) _ (nobodys s.leases (item s SoftwireSide None (answer_bytes s got e)) refl);
-  relays = λ i is. one_item (IsFromLease s.leases) i (source_relayed h is);
-  delivers = λ d row by. one_item (IsFromLease s.leases) _ (nobodys s.leases (item s SoftwireSide None (delivered_bytes s d row)) refl);
-  forwards = λ got g by abroad.
-      let bytes_out = datagram_bytes (translated true g.place got.datagram) in
-      one_item (IsFromLease (sent_out s got g).state.leases) (item s PublicSide (Some got.who.owner) bytes_out) (source_out h by);
-  turns = λ got g row by turned.
-      let sent = item s SoftwireSide (Some got.who.owner) (hairpin_bytes s got g row) in
-      one_item (IsFromLease (sent_back s got g row).state.leases) sent (source_back row h by);
+  relays = λ sent is. source_relayed h is;
+  delivers = λ d row by. nobodys_in s.leases s row d.header.fields.tos (datagram_bytes (translated false (inner_place row.key) d));
+  forwards = λ got g by abroad. source_out h by;
+  turns = λ got g row by turned. source_back row h by;
   holds = λ got g cause by refuses. All-nil (IsFromLease (held_back s got g cause).state.leases);
 }
 
@@ -202,20 +223,17 @@ source_treated s bytes kind h =
 pub source_step : (s : State) (e : Event) → IsReached s → All (IsFromLease (step s e).state.leases) (step s e).items
 source_step s e h = source_treated (at_moment e.at.0 s).state e.bytes e.kind (reached_moment e.at.0 s h)
 
--- a packet bears the clock of its step
-abbrev pub IsAt : ℕ → Item → Type 0
-IsAt now i = i.at.0 ≡ now
-
 now_treated : (s : State) (bytes : List ℕ) (kind : EventKind)
     → All (IsAt (treatment s kind bytes).state.clock) (treatment s kind bytes).items
 now_treated s bytes kind = by_way (λ (t : Step). All (IsAt t.state.clock) t.items) s bytes kind (λ kept. record {
   rests = All-nil (IsAt s.clock);
   drops = λ cause. All-nil (IsAt s.clock);
   answers = λ got cause e is. one_item (IsAt s.clock) _ refl;
-  relays = λ i is. one_item (IsAt s.clock) i (at_relayed is);
-  delivers = λ d row by. one_item (IsAt s.clock) _ refl;
-  forwards = λ got g by abroad. one_item (IsAt s.clock) _ refl;
-  turns = λ got g row by turned. one_item (IsAt s.clock) _ refl;
+  relays = λ sent is. at_relayed is;
+  delivers = λ d row by. at_softwire s None row d.header.fields.tos (datagram_bytes (translated false (inner_place row.key) d));
+  forwards = λ got g by abroad. at_public s got.who.owner (turned got g).header (transport_bytes (turned got g).body);
+  turns = λ got g row by back.
+      at_softwire s (Some got.who.owner) row got.datagram.header.fields.tos (datagram_bytes (hairpinned g.place (inner_place row.key) got.datagram));
   holds = λ got g cause by refuses. All-nil (IsAt s.clock);
 })
 

@@ -1,56 +1,42 @@
--- Packets that are sent are no longer than the configuration lets them be.
+-- Packets that leave are no longer than their length fields tell.
 use Rattle.std.proofs.Common.{◌≡◌, ℕ, ◌≤◌, true, false, List, [], ◌∷◌, length, sym, subst, arith}
+use Rattle.std.specs.Prelude.{Some, None}
 use Rattle.std.proofs.lemmas.List.Elements.{All-nil, All-cons, All-append}
 use Rattle.aftr_base.specs.declared.event.Event.{Event}
 use Rattle.aftr_base.specs.declared.event.EventKind.{EventKind}
 use Rattle.cfg_text.specs.Accepted.{is_accepted}
-use Rattle.cfg_text.proofs.Facts.{facts}
 use Rattle.icmp_xlate.specs.declared.made.MadeError.{MadeError}
 use Rattle.icmp_xlate.specs.Errors.{error_bytes, forwarded_error, turned_error}
 use Rattle.icmp_xlate.specs.Made.{error_packet}
-use Rattle.nat_mapping.specs.Rows.{Mapping}
+use Rattle.wire_icmp.specs.Quoted.{report_bytes}
+use Rattle.wire_l4.specs.Grammar.{transport_bytes}
 use Rattle.xlate_core.specs.declared.grant.Grant.{Grant}
 use Rattle.xlate_core.specs.declared.step_out.Item.{Item}
+use Rattle.xlate_core.specs.Sending.{Sending, public_items}
 use Rattle.xlate_core.specs.State.{State, Step}
-use Rattle.xlate_core.specs.Datagram.{Datagram, datagram_bytes, hairpinned, inner_place, translated}
+use Rattle.xlate_core.specs.Datagram.{datagram_bytes, hairpinned, inner_place, translated}
 use Rattle.xlate_core.specs.Errors.{answer_bytes}
 use Rattle.ingress.specs.declared.received.Received.{Received}
 use Rattle.xlate_core.specs.Outbound.{Outbound}
 use Rattle.xlate_core.specs.Expiry.{at_moment}
-use Rattle.xlate_core.specs.Step.{step, treatment, delivered_bytes, hairpin_bytes, turns_back}
+use Rattle.xlate_core.specs.Step.{step, treatment, turned}
 use Rattle.xlate_core.specs.Run.{run}
 use Rattle.xlate_core.specs.Stepped.{AreShort}
-use Rattle.xlate_core.proofs.WholeDatagrams.{IsOutward, length_hairpinned, length_translated, length_tunnelled}
-use Rattle.xlate_core.proofs.Treatments.{IsFrom, IsIn, IsOut, IsTurned, by_way}
-use Rattle.xlate_core.proofs.WholeErrors.{GoesIn, GoesOut, IsRelayed, TurnsBack, length_forwarded, length_made, length_turned}
+use Rattle.xlate_core.proofs.Leaving.{short_public, short_softwire}
+use Rattle.xlate_core.proofs.WholeDatagrams.{IsOutward, length_body, length_tunnelled}
+use Rattle.xlate_core.proofs.Treatments.{IsFrom, IsOut, by_way}
+use Rattle.xlate_core.proofs.WholeErrors.{GoesIn, GoesOut, IsRelayed, TurnsBack, length_made, length_quoting}
 use Rattle.xlate_core.proofs.ValidStates.{moment_accepted, step_accepted}
 
 -- what a subscriber sent
-pub sent_outward : {s : State} {got : Outbound} {g : Grant} → IsOut s got g → IsOutward s.config got.datagram
+pub sent_outward : {s : State} {got : Outbound} {g : Grant} → IsOut s got g → IsOutward got.datagram
 sent_outward by = by.sends
 
--- what goes to the public side keeps to its MTU, and what goes to a softwire to that of the softwires
-pub length_out : {s : State} {got : Outbound} {g : Grant} → IsOut s got g → turns_back s got ≡ false
-    → length (datagram_bytes (translated true g.place got.datagram)) ≤ s.config.public_mtu
-length_out {got = got} {g = g} by abroad =
-    let is = sent_outward by in
-    omega (arith, length_translated true g.place got.datagram is.whole, is.fits abroad)
-
-pub length_back : {s : State} {got : Outbound} {g : Grant} {row : Mapping} → IsOut s got g → IsTurned s got g row
-    → length (hairpin_bytes s got g row) ≤ s.config.softwire_mtu
-length_back {s = s} {got = got} {g = g} {row = row} by turns =
-    let d = got.datagram in
-    let inner = inner_place row.key in
-    let whole = length_tunnelled s.config.aftr row.key.softwire d.header.fields.tos 4 (datagram_bytes (hairpinned g.place inner d)) in
-    omega (arith, whole, length_hairpinned g.place inner d (sent_outward by).whole, turns.fits)
-
-pub length_in : {s : State} {d : Datagram} {row : Mapping} → IsIn s d row
-    → length (delivered_bytes s d row) ≤ s.config.softwire_mtu
-length_in {s = s} {d = d} {row = row} by =
-    let is = by.arrives in
-    let inner = inner_place row.key in
-    let whole = length_tunnelled s.config.aftr row.key.softwire d.header.fields.tos 4 (datagram_bytes (translated false inner d)) in
-    omega (arith, whole, length_translated false inner d is.whole, by.receives.fits)
+short_out : {s : State} {got : Outbound} {g : Grant} → is_accepted s.config ≡ true → IsOut s got g
+    → AreShort (public_items s got.who.owner (turned got g).header (transport_bytes (turned got g).body))
+short_out {s = s} {got = got} {g = g} ok by =
+    let is = (sent_outward by).whole in
+    short_public s got.who.owner (turned got g).header (transport_bytes (turned got g).body) ok is.options (length_body true g.place got.datagram is)
 
 pub length_answer : (s : State) (got : Received) (e : MadeError) → IsFrom s.config got → length (answer_bytes s got e) ≤ 96
 length_answer s got e is =
@@ -60,21 +46,17 @@ length_answer s got e is =
 abbrev IsShortItem : Item → Type 0
 IsShortItem i = length i.bytes ≤ 65535
 
--- and one that is passed on keeps to the MTU of its side
-length_relayed : {s : State} {i : Item} → is_accepted s.config ≡ true → IsRelayed s i → IsShortItem i
-length_relayed {s = s} ok (GoesOut who row e same is abroad) =
-    let long = length_forwarded true row.ext e is.sends.is in
-    subst IsShortItem (sym same) (omega (arith, long, is.sends.fits abroad, (facts s.config ok).public_most))
-length_relayed {s = s} ok (TurnsBack who row to e same is fits) =
-    let inner = error_bytes (turned_error row.ext (inner_place to.key) e) in
-    let long = length_turned row.ext (inner_place to.key) e is.sends.is in
-    let whole = length_tunnelled s.config.aftr to.key.softwire e.header.fields.tos 4 inner in
-    subst IsShortItem (sym same) (omega (arith, whole, long, fits, (facts s.config ok).softwire_most))
-length_relayed {s = s} ok (GoesIn row e same is fits) =
-    let inner = error_bytes (forwarded_error false (inner_place row.key) e) in
-    let long = length_forwarded false (inner_place row.key) e is in
-    let whole = length_tunnelled s.config.aftr row.key.softwire e.header.fields.tos 4 inner in
-    subst IsShortItem (sym same) (omega (arith, whole, long, fits, (facts s.config ok).softwire_most))
+-- an error that is passed on
+short_relayed : {s : State} {sent : Sending} → is_accepted s.config ≡ true → IsRelayed s sent → AreShort sent.items
+short_relayed {s = s} ok (GoesOut who row e same is abroad) =
+    let out = forwarded_error true row.ext e in
+    let whole = is.sends.whole in
+    subst (λ (x : Sending). AreShort x.items) (sym same)
+    (short_public s who.owner out.header (report_bytes out.report) ok whole.is.bare (length_quoting true row.ext e whole))
+short_relayed {s = s} ok (TurnsBack who row to e same is) =
+    subst (λ (x : Sending). AreShort x.items) (sym same) (short_softwire s (Some who.owner) to e.header.fields.tos (error_bytes (turned_error row.ext (inner_place to.key) e)) ok)
+short_relayed {s = s} ok (GoesIn row e same is) =
+    subst (λ (x : Sending). AreShort x.items) (sym same) (short_softwire s None row e.header.fields.tos (error_bytes (forwarded_error false (inner_place row.key) e)) ok)
 
 one_short : (i : Item) → IsShortItem i → AreShort (i ∷ [])
 one_short i h = All-cons IsShortItem i [] h (All-nil IsShortItem)
@@ -84,10 +66,13 @@ short_treated s bytes kind ok = by_way (λ (t : Step). AreShort t.items) s bytes
   rests = All-nil IsShortItem;
   drops = λ cause. All-nil IsShortItem;
   answers = λ got cause e is. one_short _ (omega (arith, length_answer s got e is));
-  relays = λ i is. one_short i (length_relayed ok is);
-  delivers = λ d row by. one_short _ (omega (arith, length_in by, (facts s.config ok).softwire_most));
-  forwards = λ got g by abroad. one_short _ (omega (arith, length_out by abroad, (facts s.config ok).public_most));
-  turns = λ got g row by turned. one_short _ (omega (arith, length_back by turned, (facts s.config ok).softwire_most));
+  relays = λ sent is. short_relayed ok is;
+  delivers = λ d row by.
+      short_softwire s None row d.header.fields.tos (datagram_bytes (translated false (inner_place row.key) d)) ok;
+  forwards = λ got g by abroad. short_out ok by;
+  turns = λ got g row by turned.
+      short_softwire s (Some got.who.owner) row got.datagram.header.fields.tos
+      (datagram_bytes (hairpinned g.place (inner_place row.key) got.datagram)) ok;
   holds = λ got g cause by refuses. All-nil IsShortItem;
 })
 

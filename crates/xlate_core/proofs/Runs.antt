@@ -1,5 +1,5 @@
 -- Runs, one record after another, and how much comes of them.
-use Rattle.std.proofs.Common.{◌≡◌, ℕ, ◌*◌, ◌≤◌, true, false, List, [], ◌∷◌, ◌++◌, length, refl, sym, ap, ◌∙◌, arith, append_assoc}
+use Rattle.std.proofs.Common.{◌≡◌, ℕ, ◌*◌, ◌≤◌, true, false, List, [], ◌∷◌, ◌++◌, length, refl, sym, subst, ap, ◌∙◌, arith, append_assoc}
 use Rattle.std.proofs.Common.{length-append}
 use Rattle.std.specs.Prelude.{Bool, Option, Some, None, option_to_list, filter, take}
 use Rattle.std.proofs.lemmas.List.{append-nil, length-take, length-map}
@@ -16,10 +16,20 @@ use Rattle.xlate_core.specs.State.{State, Step}
 use Rattle.xlate_core.specs.Grant.{opening_events}
 use Rattle.nat_mapping.specs.Rows.{expired}
 use Rattle.xlate_core.specs.Expiry.{Closed, is_idle, closings_of, at_moment}
-use Rattle.xlate_core.specs.Step.{step, treatment, log_of, needs_horizon, promise_by}
+use Rattle.xlate_core.specs.Step.{step, treatment, log_of, needs_horizon, promise_by, sent_back, sent_in, sent_out, turned}
+use Rattle.xlate_core.specs.Datagram.{Datagram, datagram_bytes, hairpinned, inner_place, translated}
+use Rattle.xlate_core.specs.Outbound.{Outbound}
+use Rattle.xlate_core.specs.Sending.{Sending}
+use Rattle.icmp_xlate.specs.Errors.{error_bytes, forwarded_error, turned_error}
+use Rattle.wire_icmp.specs.Quoted.{report_bytes}
+use Rattle.wire_l4.specs.Grammar.{transport_bytes}
 use Rattle.xlate_core.specs.Run.{Run, run}
 use Rattle.xlate_core.proofs.Clock.{by_moment}
-use Rattle.xlate_core.proofs.Treatments.{by_way}
+use Rattle.xlate_core.proofs.Leaving.{few_public, few_softwire}
+use Rattle.xlate_core.proofs.Packets.{sent_outward}
+use Rattle.xlate_core.proofs.Treatments.{IsIn, IsOut, by_way}
+use Rattle.xlate_core.proofs.WholeDatagrams.{length_body, length_hairpinned, length_translated}
+use Rattle.xlate_core.proofs.WholeErrors.{GoesIn, GoesOut, IsRelayed, TurnsBack, length_forwarded, length_quoting, length_turned}
 
 -- ---- a run and what follows it
 
@@ -67,18 +77,18 @@ run_push s seen e =
       drops = whole.drops ∙ ap (λ (l : List DropCause). before.drops ++ l) (append-nil (option_to_list t.drop));
     }
 
--- ---- a record gives at most one packet, closes at most 512 leases, raises the horizon once and opens one lease at most, and is
+-- ---- a record gives at most 8,192 packets, as one is cut into no more, closes at most 512 leases, raises the horizon once and opens one lease at most, and is
 -- dropped at most once
 
 pub record IsSmall (t : Step) : Type 0 where
-  pub items : length t.items ≤ 1
+  pub items : length t.items ≤ 8192
   pub closings : length t.closings ≤ 512
   pub openings : length t.openings ≤ 2
   pub drops : length (option_to_list t.drop) ≤ 1
 
 -- the record's own treatment closes nothing
 pub record IsLone (t : Step) : Type 0 where
-  pub items : length t.items ≤ 1
+  pub items : length t.items ≤ 8192
   pub closings : t.closings ≡ []
   pub openings : length t.openings ≤ 1
   pub drops : length (option_to_list t.drop) ≤ 1
@@ -90,15 +100,47 @@ at_most_one (Some x) = omega arith
 one_opening : (s : State) (g : Grant) → length (opening_events s g) ≤ 1
 one_opening s g = omega (arith, length-map (option_to_list g.lease) (block_event true s.clock), at_most_one g.lease)
 
+few_out : {s : State} {got : Outbound} {g : Grant} → IsOut s got g → length (sent_out s got g).items ≤ 8192
+few_out {s = s} {got = got} {g = g} by =
+    few_public s got.who.owner (turned got g).header (transport_bytes (turned got g).body)
+    (omega (arith, length_body true g.place got.datagram (sent_outward by).whole))
+
+few_back : {s : State} {got : Outbound} {g : Grant} (row : Mapping) → IsOut s got g → length (sent_back s got g row).items ≤ 8192
+few_back {s = s} {got = got} {g = g} row by =
+    let whole = (sent_outward by).whole in
+    few_softwire s (Some got.who.owner) row got.datagram.header.fields.tos (datagram_bytes (hairpinned g.place (inner_place row.key) got.datagram))
+    (omega (arith, length_hairpinned g.place (inner_place row.key) got.datagram whole, whole.short))
+
+few_in : {s : State} {d : Datagram} {row : Mapping} → IsIn s d row → length (sent_in s d row).items ≤ 8192
+few_in {s = s} {d = d} {row = row} by =
+    let whole = by.arrives.whole in
+    few_softwire s None row d.header.fields.tos (datagram_bytes (translated false (inner_place row.key) d))
+    (omega (arith, length_translated false (inner_place row.key) d whole, whole.short))
+
+few_relayed : {s : State} {sent : Sending} → IsRelayed s sent → length sent.items ≤ 8192
+few_relayed {s = s} (GoesOut who row e same is abroad) =
+    let out = forwarded_error true row.ext e in
+    subst (λ (x : Sending). length x.items ≤ 8192) (sym same)
+    (few_public s who.owner out.header (report_bytes out.report) (omega (arith, length_quoting true row.ext e is.sends.whole)))
+few_relayed {s = s} (TurnsBack who row to e same is) =
+    let whole = is.sends.whole in
+    subst (λ (x : Sending). length x.items ≤ 8192) (sym same)
+    (few_softwire s (Some who.owner) to e.header.fields.tos (error_bytes (turned_error row.ext (inner_place to.key) e))
+    (omega (arith, length_turned row.ext (inner_place to.key) e whole.is, whole.short)))
+few_relayed {s = s} (GoesIn row e same is) =
+    subst (λ (x : Sending). length x.items ≤ 8192) (sym same)
+    (few_softwire s None row e.header.fields.tos (error_bytes (forwarded_error false (inner_place row.key) e))
+    (omega (arith, length_forwarded false (inner_place row.key) e is.is, is.short)))
+
 pub lone_treated : (s : State) (bytes : List ℕ) (kind : EventKind) → IsLone (treatment s kind bytes)
 lone_treated s bytes kind = by_way IsLone s bytes kind (λ kept. record {
   rests = record { items = omega arith; closings = refl; openings = omega arith; drops = omega arith };
   drops = λ cause. record { items = omega arith; closings = refl; openings = omega arith; drops = omega arith };
   answers = λ got cause e is. record { items = omega arith; closings = refl; openings = omega arith; drops = omega arith };
-  relays = λ i is. record { items = omega arith; closings = refl; openings = omega arith; drops = omega arith };
-  delivers = λ d row by. record { items = omega arith; closings = refl; openings = omega arith; drops = omega arith };
-  forwards = λ got g by abroad. record { items = omega arith; closings = refl; openings = one_opening s g; drops = omega arith };
-  turns = λ got g row by turned. record { items = omega arith; closings = refl; openings = one_opening s g; drops = omega arith };
+  relays = λ sent is. record { items = few_relayed is; closings = refl; openings = omega arith; drops = omega arith };
+  delivers = λ d row by. record { items = few_in by; closings = refl; openings = omega arith; drops = omega arith };
+  forwards = λ got g by abroad. record { items = few_out by; closings = refl; openings = one_opening s g; drops = omega arith };
+  turns = λ got g row by turned. record { items = few_back row by; closings = refl; openings = one_opening s g; drops = omega arith };
   holds = λ got g cause by refuses. record { items = omega arith; closings = refl; openings = one_opening s g; drops = omega arith };
 })
 
@@ -152,7 +194,7 @@ short_log s e =
 -- ---- so a run is no longer than its records
 
 pub record IsShort (r : Run) (count : ℕ) : Type 0 where
-  pub items : length r.items ≤ count
+  pub items : length r.items ≤ 8192 * count
   pub log : length r.log ≤ 514 * count
   pub drops : length r.drops ≤ count
 

@@ -1,7 +1,7 @@
 -- In which ways a record is treated.
-use Rattle.std.proofs.Common.{◌≡◌, ℕ, ◌+◌, ◌<◌, ◌≤◌, Bool, true, false, cond, List, Option, Some, None, Result, Ok, Err, ok_or, nat_le, nat_lt, refl, subst}
+use Rattle.std.proofs.Common.{◌≡◌, ℕ, ◌<◌, Bool, true, false, cond, List, Option, Some, None, Result, Ok, Err, ok_or, nat_lt, refl, subst}
 use Rattle.std.specs.Prelude.{if◌then◌else◌}
-use Rattle.std.proofs.lemmas.Bool.{leb-true, ltb-true}
+use Rattle.std.proofs.lemmas.Bool.{ltb-true}
 use Rattle.aftr_base.specs.declared.event.EventKind.{EventKind}
 use Rattle.aftr_base.specs.declared.event.DropCause.{DropCause}
 use Rattle.aftr_base.specs.declared.event.DropCause.TheVariants.{Settling, Snapped as SnappedCause, BadPacket, NoProtocol, NoMapping, Filtered}
@@ -23,7 +23,7 @@ use Rattle.ingress.specs.SoftwireSide.{softwire_arrival}
 use Rattle.ingress.proofs.Arrivals.{public_brings_uncut, softwire_brings_uncut}
 use Rattle.xlate_core.specs.State.{State, Step}
 use Rattle.xlate_core.specs.Datagram.{Datagram}
-use Rattle.xlate_core.specs.declared.step_out.Item.{Item}
+use Rattle.xlate_core.specs.Sending.{Sending}
 use Rattle.xlate_core.specs.declared.packet.Content.{Content}
 use Rattle.xlate_core.specs.declared.packet.Content.TheVariants.{Carries, Reports}
 use Rattle.xlate_core.specs.Errors.{error_about, error_from_public, error_from_subscriber}
@@ -55,7 +55,7 @@ IsFrom c got = IsReceived c IsUncut got
 -- a subscriber's datagram that goes out
 pub record IsOut (s : State) (got : Outbound) (g : Grant) : Type 0 where
   pub settled : s.floor < s.clock
-  pub sends : IsOutward s.config got.datagram
+  pub sends : IsOutward got.datagram
   pub owns : subscriber_of s.config got.who.softwire ≡ Some got.who.owner
   pub grants : mapped s got ≡ Ok g
 
@@ -63,17 +63,14 @@ pub record IsOut (s : State) (got : Outbound) (g : Grant) : Type 0 where
 pub record IsTaken (s : State) (a : Incoming) (row : Mapping) : Type 0 where
   pub finds : find_in a.proto a.to s.rows ≡ Some row
   pub filters : lets_in row a.from.addr (by_address s.config) ≡ true
-  pub fits : 40 + a.total ≤ s.config.softwire_mtu
 
 pub is_taken : (s : State) (a : Incoming) (row : Mapping) → receiver_of s a ≡ Ok row → IsTaken s a row
 is_taken s a row h =
     let (r, found, next) = step_gave (ok_or (find_in a.proto a.to s.rows) NoMapping) _ row h in
-    let (filters, next') = test_passed (lets_in r a.from.addr (by_address s.config)) Filtered _ row next in
-    let (fits, same) = test_passed (nat_le (40 + a.total) s.config.softwire_mtu) NoProtocol _ row next' in
+    let (filters, same) = test_passed (lets_in r a.from.addr (by_address s.config)) Filtered _ row next in
     subst (IsTaken s a) (ok_inj r row _ refl same) (record {
       finds = was_there (find_in a.proto a.to s.rows) NoMapping r found;
       filters = filters;
-      fits = leb-true (40 + a.total) s.config.softwire_mtu fits;
     })
 
 -- a datagram of the public side that goes in, by this row
@@ -92,7 +89,7 @@ pub record EachWay (P : Step → Type 0) (s : State) : Type 0 where
   pub rests : P (quiet s)
   pub drops : (cause : DropCause) → P (dropped s cause)
   pub answers : (got : Received) (cause : DropCause) (e : MadeError) → IsFrom s.config got → P (answered s got cause e)
-  pub relays : (i : Item) → IsRelayed s i → P (relayed s i)
+  pub relays : (sent : Sending) → IsRelayed s sent → P (relayed s sent)
   pub delivers : (d : Datagram) (row : Mapping) → IsIn s d row → P (sent_in s d row)
   pub forwards : (got : Outbound) (g : Grant) → IsOut s got g → turns_back s got ≡ false → P (sent_out s got g)
   pub turns : (got : Outbound) (g : Grant) (row : Mapping) → IsOut s got g → IsTurned s got g row → P (sent_back s got g row)
@@ -123,7 +120,7 @@ module _ (P : Step → Type 0) (s : State) (each : EachWay P s) where
   way_on got g false e is = each.forwards got g is e
 
   way_sent : (got : Received) (d : Datagram) (r : Result Grant DropCause) → mapped s (sent_by got.who d) ≡ r → s.floor < s.clock
-      → IsFrom s.config got → IsOutward s.config d
+      → IsFrom s.config got → IsOutward d
       → P (elim r [ Err cause ↦ refused s got cause | Ok g ↦ forwarding_step s (sent_by got.who d) g ])
   way_sent got d (Err cause) e settled is sends = way_refused got cause is
   way_sent got d (Ok g) e settled is sends =
@@ -131,9 +128,9 @@ module _ (P : Step → Type 0) (s : State) (each : EachWay P s) where
       way_on sent g (turns_back s sent) refl (record { settled = settled; sends = sends; owns = is.owner; grants = e })
 
   -- an error that is passed on
-  way_relayed : (r : Result Item DropCause) → ((i : Item) → r ≡ Ok i → IsRelayed s i) → P (relayed_if s r)
+  way_relayed : (r : Result Sending DropCause) → ((sent : Sending) → r ≡ Ok sent → IsRelayed s sent) → P (relayed_if s r)
   way_relayed (Err cause) h = each.drops cause
-  way_relayed (Ok i) h = each.relays i (h i refl)
+  way_relayed (Ok sent) h = each.relays sent (h sent refl)
 
   way_content : (got : Received) (r : Result Content DropCause) → outward s.config got.packet ≡ r → s.floor < s.clock
       → IsFrom s.config got → P (elim r [ Err cause ↦ refused s got cause | Ok content ↦ content_out s got content ])

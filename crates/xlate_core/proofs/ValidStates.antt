@@ -18,7 +18,8 @@ use Rattle.xlate_core.specs.declared.arrival.Arrival.{Arrival}
 use Rattle.xlate_core.specs.declared.grant.Flow.{Flow}
 use Rattle.xlate_core.specs.Arrivals.{arrival_of, moved_in, rows_inbound}
 use Rattle.xlate_core.specs.Grant.{after_grant, granted_only}
-use Rattle.xlate_core.specs.Step.{flow_of, step, treatment, turned}
+use Rattle.fragment_ids.specs.declared.Count.{Count}
+use Rattle.xlate_core.specs.Step.{delivery, flow_of, hairpin, step, treatment, turned}
 use Rattle.xlate_core.specs.Rows.{find_out, touched}
 use Rattle.nat_mapping.specs.declared.row.Peer.{Peer}
 use Rattle.xlate_core.specs.Run.{run, start}
@@ -78,6 +79,11 @@ consistent_by s test (Some p) v = consistent_touched s test p v
 consistent_inbound : (s : State) (a : Arrival) → IsConsistent s → IsConsistent (record s { rows = rows_inbound s a })
 consistent_inbound s a v = consistent_by s (is_at a.proto a.to) (moved_in s a) v
 
+-- however many packets were cut
+consistent_counting : {s : State} (cuts : List Count) → IsConsistent s → IsConsistent (record s { cuts = cuts })
+consistent_counting cuts v =
+    record { granted = v.granted; owned = v.owned; apart = v.apart; leases = v.leases; open_apart = v.open_apart }
+
 -- a grant without the packet
 only_by : (s : State) (f : Flow) (g : Grant) (o : Option Mapping) → find_out f.key s.rows ≡ o → IsGrant s f g → IsConsistent s
     → IsConsistent (granted_only f g s)
@@ -92,11 +98,12 @@ consistent_ways s ok v = record {
   rests = v;
   drops = λ cause. v;
   answers = λ got cause e is. v;
-  relays = λ i is. v;
-  delivers = λ d r by. consistent_inbound s (arrival_of d) v;
+  relays = λ sent is. consistent_counting sent.cuts v;
+  delivers = λ d r by. consistent_counting (delivery s d r).cuts (consistent_inbound s (arrival_of d) v);
   forwards = λ got g by abroad. consistent_grant (grant_out ok by) v;
   turns = λ got g row by back.
-      consistent_inbound (after_grant (flow_of got) g s) (arrival_of (turned got g)) (consistent_grant (grant_out ok by) v);
+      consistent_counting (hairpin s got g row).cuts
+      (consistent_inbound (after_grant (flow_of got) g s) (arrival_of (turned got g)) (consistent_grant (grant_out ok by) v));
   holds = λ got g cause by refuses. consistent_only (grant_out ok by) v;
 }
 

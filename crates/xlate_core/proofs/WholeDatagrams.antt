@@ -41,6 +41,7 @@ pub record IsWhole (d : Datagram) : Type 0 where
   pub ttl : 2 ≤ d.header.fields.ttl
   pub body : HasBody d.header.fields.proto d.body
   pub total : d.header.fields.total ≡ 20 + length (transport_bytes d.body)
+  pub short : d.header.fields.total ≤ 65535
 
 carries_inj : (x y : Datagram) → Carries x ≡ Carries y → x ≡ y
 carries_inj x y h = cc
@@ -48,25 +49,31 @@ carries_inj x y h = cc
 abbrev datagram_with : Header → Transport → Datagram
 datagram_with h t = record { header = h; body = t }
 
-read_whole : (p : Header × List ℕ) (t : Transport) → IsUncut p → 2 ≤ p.0.fields.ttl → IsRead p.0.fields.proto p.1 t → IsWhole (datagram_with p.0 t)
-read_whole p t packet ttl is =
+-- what a header can tell, and a TTL for a further hop
+pub record MayGoOn (h : Header) : Type 0 where
+  pub ttl : 2 ≤ h.fields.ttl
+  pub short : h.fields.total ≤ 65535
+
+read_whole : (p : Header × List ℕ) (t : Transport) → IsUncut p → MayGoOn p.0 → IsRead p.0.fields.proto p.1 t → IsWhole (datagram_with p.0 t)
+read_whole p t packet may is =
     let pieces = or_parts p.0.fields.more (nat_lt 0 p.0.fields.offset) packet.whole in
     record {
       options = packet.plain;
       more = pieces.0;
       offset = omega (arith, ltb-false 0 p.0.fields.offset pieces.1);
-      ttl = ttl;
+      ttl = may.ttl;
       body = is.body;
       total = omega (arith, packet.total, is.size);
+      short = may.short;
     }
 
-is_whole : (p : Header × List ℕ) (proto : Proto) (d : Datagram) → IsUncut p → 2 ≤ p.0.fields.ttl
+is_whole : (p : Header × List ℕ) (proto : Proto) (d : Datagram) → IsUncut p → MayGoOn p.0
     → proto_from p.0.fields.proto ≡ Ok proto → datagram_content proto p ≡ Ok (Carries d) → IsWhole d × (p.0 ≡ d.header)
-is_whole p proto d packet ttl known h =
+is_whole p proto d packet may known h =
     let (t, holds, same) = step_gave (transport_from proto p.1) _ (Carries d) h in
     let made = datagram_with p.0 t in
     let is : made ≡ d = carries_inj made d (ok_inj (Carries made) (Carries d) _ refl same) in
-    let whole = read_whole p t packet ttl (is_read p.0.fields.proto proto p.1 t known holds) in
+    let whole = read_whole p t packet may (is_read p.0.fields.proto proto p.1 t known holds) in
     (subst IsWhole is whole, ap (λ (x : Datagram). x.header) is)
 
 -- ---- what a packet brings
@@ -84,37 +91,27 @@ content_by p proto false d h = h
 pub carries_whole : (p : Header × List ℕ) (d : Datagram) → IsUncut p → content_of p ≡ Ok (Carries d)
     → IsWhole d × (p.0 ≡ d.header)
 carries_whole p d packet h =
-    let (proto, known, next) = step_gave (proto_from p.0.fields.proto) _ (Carries d) h in
+    let (total, rest) = test_passed (nat_le p.0.fields.total 65535) _ _ (Carries d) h in
+    let (proto, known, next) = step_gave (proto_from p.0.fields.proto) _ (Carries d) rest in
     let (ttl, next') = test_passed (nat_le 2 p.0.fields.ttl) _ _ (Carries d) next in
-    is_whole p proto d packet (leb-true 2 p.0.fields.ttl ttl) known (content_by p proto (is_report proto p.1) d next')
+    let may : MayGoOn p.0 = record { ttl = leb-true 2 p.0.fields.ttl ttl; short = leb-true p.0.fields.total 65535 total } in
+    is_whole p proto d packet may known (content_by p proto (is_report proto p.1) d next')
 
 -- ---- either way
 
--- what a subscriber sends: it has a route, and to an address outside the pool it isn't too long
-pub record IsOutward (c : Config) (d : Datagram) : Type 0 where
+-- what a subscriber sends: it has a route
+pub record IsOutward (d : Datagram) : Type 0 where
   pub whole : IsWhole d
   pub routed : has_route d.header ≡ true
-  pub fits : is_ours c d.header.fields.dst ≡ false → d.header.fields.total ≤ c.public_mtu
 
-pub fits_abroad : (back fits : Bool) → (back || fits) ≡ true → back ≡ false → fits ≡ true
-fits_abroad true fits h e = cc
-fits_abroad false fits h e = h
-
-pub is_outward : (c : Config) (p : Header × List ℕ) (d : Datagram) → IsUncut p → outward c p ≡ Ok (Carries d) → IsOutward c d
+pub is_outward : (c : Config) (p : Header × List ℕ) (d : Datagram) → IsUncut p → outward c p ≡ Ok (Carries d) → IsOutward d
 is_outward c p d packet h =
     let f = p.0.fields in
-    let short = nat_le f.total c.public_mtu in
     let (routed, next) = test_passed (has_route p.0) _ _ (Carries d) h in
-    let (x, holds, next1) = step_gave (content_of p) _ (Carries d) next in
-    let next2 = (test_passed (is_ours c f.dst || short || not f.dont_cut) _ _ (Carries d) next1).1 in
-    let (fits, same) = test_passed (is_ours c f.dst || short) _ _ (Carries d) next2 in
+    let (x, holds, next') = step_gave (content_of p) _ (Carries d) next in
+    let same = (test_passed (is_ours c f.dst || nat_le f.total c.public_mtu || not f.dont_cut) _ _ (Carries d) next').1 in
     let (whole, kept) = carries_whole p d packet (holds ∙ same) in
-    record {
-      whole = whole;
-      routed = subst (λ (k : Header). has_route k ≡ true) kept routed;
-      fits = subst (λ (k : Header). is_ours c k.fields.dst ≡ false → k.fields.total ≤ c.public_mtu) kept
-          (λ abroad. leb-true f.total c.public_mtu (fits_abroad (is_ours c f.dst) short fits abroad));
-    }
+    record { whole = whole; routed = subst (λ (k : Header). has_route k ≡ true) kept routed }
 
 -- what the public side sends: from a routed address outside the pool
 pub record IsInward (c : Config) (d : Datagram) : Type 0 where
@@ -176,6 +173,10 @@ length_hairpinned src dst d is =
       none,
       is.total,
     )
+
+-- what stands behind the header
+pub length_body : (source : Bool) (new : Ext) (d : Datagram) → IsWhole d → length (transport_bytes (translated source new d).body) ≤ 65515
+length_body source new d is = omega (arith, length_replaced source (place_on source d) new d.body, is.total, is.short)
 
 -- a packet to a softwire is 40 bytes longer than what is in it
 pub length_tunnelled : (aftr softwire : Ip6) (class next : ℕ) (bytes : List ℕ)

@@ -6,7 +6,7 @@ use Rattle.std.proofs.lemmas.Bool.{eqb-true, leb-true}
 use Rattle.std.proofs.lemmas.List.{length-take}
 use Rattle.aftr_base.specs.Bytes.{be16, be32}
 use Rattle.aftr_base.specs.declared.event.DropCause.{DropCause}
-use Rattle.aftr_base.specs.declared.event.DropCause.TheVariants.{BadPacket, NoMapping, NoProtocol}
+use Rattle.aftr_base.specs.declared.event.DropCause.TheVariants.{BadPacket, NoMapping}
 use Rattle.aftr_base.specs.declared.value.Ext.{Ext}
 use Rattle.aftr_base.specs.declared.value.Proto.{Proto}
 use Rattle.aftr_base.specs.declared.value.Proto.TheVariants.{Tcp, Udp, Icmp}
@@ -25,7 +25,6 @@ use Rattle.nat_mapping.specs.Rows.{Mapping}
 use Rattle.ingress.specs.declared.received.Sender.{Sender}
 use Rattle.xlate_core.specs.declared.packet.Content.{Content}
 use Rattle.xlate_core.specs.declared.packet.Content.TheVariants.{Carries, Reports}
-use Rattle.xlate_core.specs.declared.step_out.Item.{Item}
 use Rattle.subscriber_table.specs.Under.{subscriber_of}
 use Rattle.xlate_core.specs.Datagram.{Datagram, inner_place}
 use Rattle.xlate_core.specs.Content.{content_of, datagram_content, error_content, is_report}
@@ -36,10 +35,11 @@ use Rattle.xlate_core.specs.Rows.{find_in, find_out}
 use Rattle.ingress.specs.Packet.{IsUncut}
 use Rattle.ingress.specs.PublicSide.{is_ours}
 use Rattle.xlate_core.specs.State.{State}
-use Rattle.xlate_core.specs.Errors.{error_back, error_from_public, error_from_subscriber, error_item, error_key, error_out, quoted_row}
+use Rattle.xlate_core.specs.Errors.{error_back, error_from_public, error_from_subscriber, error_in, error_key, error_out, quoted_row}
+use Rattle.xlate_core.specs.Sending.{Sending}
 use Rattle.xlate_core.proofs.Attempts.{ok_inj, step_gave, test_passed, was_there}
 use Rattle.xlate_core.proofs.Transports.{numbered}
-use Rattle.xlate_core.proofs.WholeDatagrams.{fits_abroad, length_header, length_replaced}
+use Rattle.xlate_core.proofs.WholeDatagrams.{length_header, length_replaced}
 
 -- ---- an error in a packet
 
@@ -91,42 +91,42 @@ header_by h (Some r) e x = cc
 header_kept : (p : Header × List ℕ) (e : ErrorPacket) → error_of p ≡ Some e → p.0 ≡ e.header
 header_kept p e h = header_by p.0 (report_of p.1) e h
 
+-- an error that its header can tell the length of
+pub record IsShortError (e : ErrorPacket) : Type 0 where
+  pub is : IsError e
+  pub short : e.header.fields.total ≤ 65535
+
 -- a packet that brings an error
-pub reports_whole : (p : Header × List ℕ) (e : ErrorPacket) → IsUncut p → content_of p ≡ Ok (Reports e) → IsError e × (p.0 ≡ e.header)
+pub reports_whole : (p : Header × List ℕ) (e : ErrorPacket) → IsUncut p → content_of p ≡ Ok (Reports e) → IsShortError e × (p.0 ≡ e.header)
 reports_whole p e packet h =
-    let (proto, known, next) = step_gave (proto_from p.0.fields.proto) _ (Reports e) h in
+    let (total, rest) = test_passed (nat_le p.0.fields.total 65535) _ _ (Reports e) h in
+    let (proto, known, next) = step_gave (proto_from p.0.fields.proto) _ (Reports e) rest in
     let (ttl, next') = test_passed (nat_le 2 p.0.fields.ttl) _ _ (Reports e) next in
     let (report, there) = report_by p proto (is_report proto p.1) e refl next' in
     let message = is_message proto p.1 report in
     let icmp = subst (λ (x : Proto). proto_from p.0.fields.proto ≡ Ok x) message.icmp known in
     let one : p.0.fields.proto ≡ 1 = numbered p.0.fields.proto Icmp icmp in
     let is = is_error p message.message e packet.plain one packet.total message.reads message.fault there in
-    (is, header_kept p e there)
+    let kept = header_kept p e there in
+    let short = subst (λ (k : Header). k.fields.total ≤ 65535) kept (leb-true p.0.fields.total 65535 total) in
+    (record { is = is; short = short }, kept)
 
--- what a subscriber sends: it has a route, and to an address outside the pool it isn't too long
-pub record IsErrorOutward (c : Config) (e : ErrorPacket) : Type 0 where
-  pub is : IsError e
+-- what a subscriber sends: it has a route
+pub record IsErrorOutward (e : ErrorPacket) : Type 0 where
+  pub whole : IsShortError e
   pub routed : has_route e.header ≡ true
-  pub fits : is_ours c e.header.fields.dst ≡ false → e.header.fields.total ≤ c.public_mtu
 
-pub error_outward : (c : Config) (p : Header × List ℕ) (e : ErrorPacket) → IsUncut p → outward c p ≡ Ok (Reports e) → IsErrorOutward c e
+pub error_outward : (c : Config) (p : Header × List ℕ) (e : ErrorPacket) → IsUncut p → outward c p ≡ Ok (Reports e) → IsErrorOutward e
 error_outward c p e packet h =
     let f = p.0.fields in
-    let short = nat_le f.total c.public_mtu in
     let (routed, next) = test_passed (has_route p.0) _ _ (Reports e) h in
-    let (x, holds, next1) = step_gave (content_of p) _ (Reports e) next in
-    let next2 = (test_passed (is_ours c f.dst || short || not f.dont_cut) _ _ (Reports e) next1).1 in
-    let (fits, same) = test_passed (is_ours c f.dst || short) _ _ (Reports e) next2 in
-    let (is, kept) = reports_whole p e packet (holds ∙ same) in
-    record {
-      is = is;
-      routed = subst (λ (k : Header). has_route k ≡ true) kept routed;
-      fits = subst (λ (k : Header). is_ours c k.fields.dst ≡ false → k.fields.total ≤ c.public_mtu) kept
-          (λ abroad. leb-true f.total c.public_mtu (fits_abroad (is_ours c f.dst) short fits abroad));
-    }
+    let (x, holds, next') = step_gave (content_of p) _ (Reports e) next in
+    let same = (test_passed (is_ours c f.dst || nat_le f.total c.public_mtu || not f.dont_cut) _ _ (Reports e) next').1 in
+    let (whole, kept) = reports_whole p e packet (holds ∙ same) in
+    record { whole = whole; routed = subst (λ (k : Header). has_route k ≡ true) kept routed }
 
 -- what the public side sends
-pub error_inward : (c : Config) (p : Header × List ℕ) (e : ErrorPacket) → IsUncut p → inward c p ≡ Ok (Reports e) → IsError e
+pub error_inward : (c : Config) (p : Header × List ℕ) (e : ErrorPacket) → IsUncut p → inward c p ≡ Ok (Reports e) → IsShortError e
 error_inward c p e packet h =
     let f = p.0.fields in
     let holds = (test_passed (is_routable f.src && not (is_ours c f.src)) _ _ (Reports e) h).1 in
@@ -168,6 +168,13 @@ length_turned src dst e is =
       is.total,
     )
 
+-- what stands behind its header
+pub length_quoting : (source : Bool) (new : Ext) (e : ErrorPacket) → IsShortError e
+    → length (report_bytes (forwarded_error source new e).report) ≤ 65515
+length_quoting source new e whole =
+    let out = forwarded_error source new e in
+    omega (arith, length_forwarded source new e whole.is, length_header out.header (report_bytes out.report), whole.short)
+
 -- an error that is made quotes 28 bytes at most
 -- what is made about a packet that isn't one of an error
 pub made_is : (e : MadeError) (h : Header) (payload : List ℕ) → is_error_in h.fields.proto payload ≡ false
@@ -192,47 +199,38 @@ length_made e h payload bare =
 pub record IsSentError (s : State) (who : Sender) (row : Mapping) (e : ErrorPacket) : Type 0 where
   pub owns : subscriber_of s.config who.softwire ≡ Some who.owner
   pub finds : find_out (error_key who.softwire e) s.rows ≡ Some row
-  pub sends : IsErrorOutward s.config e
-
-abbrev FitsSoftwire : State → ErrorPacket → Type 0
-FitsSoftwire s e = 40 + e.header.fields.total ≤ s.config.softwire_mtu
+  pub sends : IsErrorOutward e
 
 -- to the public side, back to a subscriber, or in from the public side
-pub data IsRelayed (s : State) (i : Item) : Type 0 where
-  GoesOut : (who : Sender) (row : Mapping) (e : ErrorPacket) → i ≡ error_out s who row e → IsSentError s who row e
-      → is_ours s.config e.header.fields.dst ≡ false → IsRelayed s i
+pub data IsRelayed (s : State) (sent : Sending) : Type 0 where
+  GoesOut : (who : Sender) (row : Mapping) (e : ErrorPacket) → sent ≡ error_out s who row e → IsSentError s who row e
+      → is_ours s.config e.header.fields.dst ≡ false → IsRelayed s sent
   TurnsBack : (who : Sender) (row to : Mapping) (e : ErrorPacket)
-      → i ≡ error_item s (Some who.owner) to (turned_error row.ext (inner_place to.key) e) → IsSentError s who row e → FitsSoftwire s e
-      → IsRelayed s i
-  GoesIn : (row : Mapping) (e : ErrorPacket) → i ≡ error_item s None row (forwarded_error false (inner_place row.key) e) → IsError e
-      → FitsSoftwire s e → IsRelayed s i
+      → sent ≡ error_in s (Some who.owner) to (turned_error row.ext (inner_place to.key) e) → IsSentError s who row e → IsRelayed s sent
+  GoesIn : (row : Mapping) (e : ErrorPacket) → sent ≡ error_in s None row (forwarded_error false (inner_place row.key) e) → IsShortError e
+      → IsRelayed s sent
 
-quoted_fits : (s : State) (e : ErrorPacket) (to : Ext) (row : Mapping) → quoted_row s e to ≡ Ok row → FitsSoftwire s e
-quoted_fits s e to row h =
-    let (r, found, next) = step_gave (ok_or (find_in _ to s.rows) NoMapping) _ row h in
-    leb-true (40 + e.header.fields.total) s.config.softwire_mtu (test_passed (nat_le (40 + e.header.fields.total) s.config.softwire_mtu) NoProtocol _ row next).0
+relayed_back : (s : State) (who : Sender) (row : Mapping) (e : ErrorPacket) (sent : Sending) → IsSentError s who row e
+    → error_back s who row e ≡ Ok sent → IsRelayed s sent
+relayed_back s who row e sent is h =
+    let (to, there, same) = step_gave (quoted_row s e (error_place false (forwarded_error true row.ext e))) _ sent h in
+    let made = error_in s (Some who.owner) to (turned_error row.ext (inner_place to.key) e) in
+    TurnsBack who row to e (sym (ok_inj made sent _ refl same)) is
 
-relayed_back : (s : State) (who : Sender) (row : Mapping) (e : ErrorPacket) (i : Item) → IsSentError s who row e → error_back s who row e ≡ Ok i
-    → IsRelayed s i
-relayed_back s who row e i is h =
-    let (to, there, same) = step_gave (quoted_row s e (error_place false (forwarded_error true row.ext e))) _ i h in
-    let made = error_item s (Some who.owner) to (turned_error row.ext (inner_place to.key) e) in
-    TurnsBack who row to e (sym (ok_inj made i _ refl same)) is (quoted_fits s e _ to there)
-
-relayed_on : (s : State) (who : Sender) (row : Mapping) (e : ErrorPacket) (i : Item) (back : Bool) → is_ours s.config e.header.fields.dst ≡ back
-    → IsSentError s who row e → (if back then error_back s who row e else Ok (error_out s who row e)) ≡ Ok i → IsRelayed s i
-relayed_on s who row e i true ours is h = relayed_back s who row e i is h
-relayed_on s who row e i false ours is h = GoesOut who row e (sym (ok_inj (error_out s who row e) i _ refl h)) is ours
+relayed_on : (s : State) (who : Sender) (row : Mapping) (e : ErrorPacket) (sent : Sending) (back : Bool) → is_ours s.config e.header.fields.dst ≡ back
+    → IsSentError s who row e → (if back then error_back s who row e else Ok (error_out s who row e)) ≡ Ok sent → IsRelayed s sent
+relayed_on s who row e sent true ours is h = relayed_back s who row e sent is h
+relayed_on s who row e sent false ours is h = GoesOut who row e (sym (ok_inj (error_out s who row e) sent _ refl h)) is ours
 
 pub relayed_out : (s : State) (who : Sender) (e : ErrorPacket) → subscriber_of s.config who.softwire ≡ Some who.owner
-    → IsErrorOutward s.config e → (i : Item) → error_from_subscriber s who e ≡ Ok i → IsRelayed s i
-relayed_out s who e owns sends i h =
-    let (row, found, next) = step_gave (ok_or (find_out (error_key who.softwire e) s.rows) NoMapping) _ i h in
+    → IsErrorOutward e → (sent : Sending) → error_from_subscriber s who e ≡ Ok sent → IsRelayed s sent
+relayed_out s who e owns sends sent h =
+    let (row, found, next) = step_gave (ok_or (find_out (error_key who.softwire e) s.rows) NoMapping) _ sent h in
     let there = was_there (find_out (error_key who.softwire e) s.rows) NoMapping row found in
-    relayed_on s who row e i (is_ours s.config e.header.fields.dst) refl (record { owns = owns; finds = there; sends = sends }) next
+    relayed_on s who row e sent (is_ours s.config e.header.fields.dst) refl (record { owns = owns; finds = there; sends = sends }) next
 
-pub relayed_in : (s : State) (e : ErrorPacket) → IsError e → (i : Item) → error_from_public s e ≡ Ok i → IsRelayed s i
-relayed_in s e is i h =
-    let (row, there, same) = step_gave (quoted_row s e (error_place false e)) _ i h in
-    let made = error_item s None row (forwarded_error false (inner_place row.key) e) in
-    GoesIn row e (sym (ok_inj made i _ refl same)) is (quoted_fits s e _ row there)
+pub relayed_in : (s : State) (e : ErrorPacket) → IsShortError e → (sent : Sending) → error_from_public s e ≡ Ok sent → IsRelayed s sent
+relayed_in s e is sent h =
+    let (row, there, same) = step_gave (quoted_row s e (error_place false e)) _ sent h in
+    let made = error_in s None row (forwarded_error false (inner_place row.key) e) in
+    GoesIn row e (sym (ok_inj made sent _ refl same)) is

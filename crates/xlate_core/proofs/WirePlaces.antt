@@ -5,7 +5,7 @@ use Rattle.std.specs.Prelude.{IfSome, not, ◌&&◌, ◌||◌}
 use Rattle.std.proofs.lemmas.List.Elements.{All-weaker, All-nil, All-cons, All-append}
 use Rattle.std.proofs.lemmas.Nat.{from_be_bytes-to_be_bytes_2, from_be_bytes-to_be_bytes_4}
 use Rattle.std.proofs.lemmas.Bool.{both_ways, eq-eqb, eqb-true}
-use Rattle.aftr_base.specs.Bytes.{u8_at, u16_at, u32_at, be16, be32, be128}
+use Rattle.aftr_base.specs.Bytes.{u8_at, u16_at, u32_at, be16, be32}
 use Rattle.aftr_base.specs.Checksum.{adjusted}
 use Rattle.aftr_base.specs.Value.{moment}
 use Rattle.aftr_base.specs.Plan.{is_prefix6}
@@ -20,8 +20,6 @@ use Rattle.cfg_text.specs.Accepted.{is_accepted}
 use Rattle.cfg_text.proofs.Facts.{facts}
 use Rattle.wire_ip4.specs.Grammar.{Header, header_bytes}
 use Rattle.wire_icmp.specs.Quoted.{is_echo}
-use Rattle.wire_ip6.specs.declared.fields.Ip6Fields.{Ip6Fields}
-use Rattle.wire_ip6.specs.Grammar.{header_bytes as tunnel_header}
 use Rattle.wire_l4.specs.Grammar.{Segment, Echo, Transport, Ports, Query, echo_bytes, segment_bytes, transport_bytes}
 use Rattle.wire_l4.specs.Places.{segment_sum}
 use Rattle.nat_mapping.specs.Rows.{Mapping}
@@ -144,41 +142,6 @@ pub port_out : (e : Ext) (d : Datagram) → IsWhole d → e.port < 2 ^ 16 → po
 port_out e d is lt = out_of e d d.body is.body is.options lt
 
 -- ---- in a packet that turned back
-
--- what is read behind an IPv6 header is what stands there in the packet that it carries
-pub behind_address : (f : Ip6Fields) (inner : List ℕ) → u32_at 52 (tunnel_header f ++ inner) ≡ u32_at 12 inner
-unfolding be16 be32 be128
-behind_address f inner = refl
-
-pub behind_proto : (f : Ip6Fields) (inner : List ℕ) → u8_at 49 (tunnel_header f ++ inner) ≡ u8_at 9 inner
-unfolding be16 be32 be128
-behind_proto f inner = refl
-
-pub behind_kind : (f : Ip6Fields) (inner : List ℕ) → u8_at 60 (tunnel_header f ++ inner) ≡ u8_at 20 inner
-unfolding be16 be32 be128
-behind_kind f inner = refl
-
-pub behind_number : (f : Ip6Fields) (inner : List ℕ) → u8_at 77 (tunnel_header f ++ inner) ≡ u8_at 37 inner
-unfolding be16 be32 be128
-behind_number f inner = refl
-
-port_behind : (f : Ip6Fields) (inner : List ℕ) (icmp error about : Bool)
-    → u16_at (port_offset 40 icmp error about) (tunnel_header f ++ inner) ≡ at_offset icmp error about inner
-unfolding be16 be32 be128
-port_behind f inner false error about = refl
-port_behind f inner true false about = refl
-port_behind f inner true true true = refl
-port_behind f inner true true false = refl
-
-pub behind_port : (f : Ip6Fields) (inner : List ℕ) → port_at 40 (tunnel_header f ++ inner) ≡ port_in inner
-behind_port f inner =
-    let whole = tunnel_header f ++ inner in
-    (λ i. u16_at (port_offset 40 (behind_proto f inner i == 1) (is_fault (behind_kind f inner i)) (behind_number f inner i == 1)) whole)
-    ∙ port_behind f inner (u8_at 9 inner == 1) (is_fault (u8_at 20 inner)) (u8_at 37 inner == 1)
-
--- and whether that is an identifier
-pub behind_query : (f : Ip6Fields) (inner : List ℕ) → is_query_at 40 (tunnel_header f ++ inner) ≡ is_query_at 0 inner
-behind_query f inner = λ i. (behind_proto f inner i == 1) && (not (is_fault (behind_kind f inner i)) || behind_number f inner i == 1)
 
 pub address_back : (src dst : Ext) (d : Datagram) → src.addr.0 < 2 ^ 32 → u32_at 12 (datagram_bytes (hairpinned src dst d)) ≡ src.addr.0
 address_back src dst d lt = address_read (hairpinned src dst d).header (transport_bytes (hairpinned src dst d).body) lt

@@ -1,9 +1,9 @@
 -- What goes in by a mapping, from the public side or from another subscriber: which row that is, and what becomes of it
 -- (RFC 4787 5, 6).
-use Rattle.std.specs.Prelude.{ℕ, ◌+◌, true, false, nat_le, List, Option, Some, None, ok_or, Result, Ok, option_and_then}
+use Rattle.std.specs.Prelude.{ℕ, true, false, List, Option, Some, None, ok_or, Result, Ok, option_and_then}
 use Rattle.aftr_base.specs.Attempt.{◌>>=◌, ◌>>◌, require}
 use Rattle.aftr_base.specs.declared.event.DropCause.{DropCause}
-use Rattle.aftr_base.specs.declared.event.DropCause.TheVariants.{NoMapping, Filtered, NoProtocol}
+use Rattle.aftr_base.specs.declared.event.DropCause.TheVariants.{NoMapping, Filtered}
 use Rattle.cfg_text.specs.declared.config.Config.{Config}
 use Rattle.cfg_text.specs.Accepted.{by_address}
 use Rattle.nat_filter.specs.Admits.{admits}
@@ -22,16 +22,14 @@ arrival_of d = record {
   proto = proto_of d.body;
   from = place_on true d;
   to = place_on false d;
-  total = d.header.fields.total;
   flags = flags_of d.body;
 }
 
--- the mapping that it goes in by, or the first rule that refuses it; a packet isn't cut for the softwire
+-- the mapping that it goes in by, or the first rule that refuses it
 abbrev pub receiver_of : State → Arrival → Result Mapping DropCause
 receiver_of s a = do
   row ← ok_or (find_in a.proto a.to s.rows) NoMapping
   require (admits row a.from.addr (by_address s.config)) Filtered
-  require (nat_le (40 + a.total) s.config.softwire_mtu) NoProtocol
   Ok row
 
 -- the peer whose state a segment changes

@@ -32,9 +32,10 @@ error_content packet = ok_or (option_map Reports (error_of packet)) BadPacket
 abbrev pub content_in : Proto → Header × List ℕ → Result Content DropCause
 content_in proto packet = if is_report proto packet.1 then error_content packet else datagram_content proto packet
 
--- what a packet brings that may be forwarded once more
+-- What a packet brings that may be forwarded once more. No packet is longer than its header can tell.
 abbrev pub content_of : Header × List ℕ → Result Content DropCause
 content_of packet = do
+  require (nat_le packet.0.fields.total 65535) BadPacket
   proto ← proto_from packet.0.fields.proto
   require (nat_le 2 packet.0.fields.ttl) TtlSpent
   content_in proto packet

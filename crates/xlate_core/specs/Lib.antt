@@ -13,6 +13,7 @@ pub mod Outbound
 pub mod Packet
 pub mod Rows
 pub mod Run
+pub mod Sending
 pub mod Sources
 pub mod State
 pub mod Step

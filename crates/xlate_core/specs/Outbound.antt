@@ -2,7 +2,7 @@
 use Rattle.std.specs.Prelude.{ℕ, not, ◌||◌, nat_le, List, Result, Ok}
 use Rattle.aftr_base.specs.Attempt.{◌>>=◌, ◌>>◌, require}
 use Rattle.aftr_base.specs.declared.event.DropCause.{DropCause}
-use Rattle.aftr_base.specs.declared.event.DropCause.TheVariants.{NoProtocol, NoRoute, TooBig}
+use Rattle.aftr_base.specs.declared.event.DropCause.TheVariants.{NoRoute, TooBig}
 use Rattle.cfg_text.specs.declared.config.Config.{Config}
 use Rattle.wire_ip4.specs.Grammar.{Header}
 use Rattle.ingress.specs.declared.received.Sender.{Sender}
@@ -17,13 +17,12 @@ pub record Outbound : Type 0 where
   pub who : Sender
   pub datagram : Datagram
 
--- What a packet brings, whether that goes to the public side or turns back to a subscriber: it isn't cut for the public side.
+-- What a packet brings, whether that goes to the public side or turns back to a subscriber. One that is too long for the public
+-- side is cut, unless that is forbidden.
 abbrev pub outward : Config → Header × List ℕ → Result Content DropCause
 outward c packet = do
   require (has_route packet.0) NoRoute
   content ← content_of packet
   let f = packet.0.fields
-  let fits = is_ours c f.dst || nat_le f.total c.public_mtu
-  require (fits || not f.dont_cut) TooBig
-  require fits NoProtocol
+  require (is_ours c f.dst || nat_le f.total c.public_mtu || not f.dont_cut) TooBig
   Ok content

@@ -47,6 +47,7 @@ start c told = record {
   leases = told.leases;
   plans = told.plans;
   kept = [];
+  cuts = [];
 }
 
 -- what a log tells that has the rows and the horizon of a state, in so many records

@@ -1,5 +1,5 @@
--- Where a packet that leaves comes from (RFC 791, RFC 2473).
-use Rattle.std.specs.Prelude.{ℕ, ◌+◌, Bool, true, not, ◌&&◌, ◌||◌, ◌==◌, List, Option, None, if◌then◌else◌}
+-- Where a packet that leaves comes from (RFC 791, RFC 2473, RFC 8200 4.5).
+use Rattle.std.specs.Prelude.{ℕ, ◌+◌, ◌/◌, ◌%◌, Bool, true, not, ◌&&◌, ◌||◌, ◌==◌, List, Option, None, if◌then◌else◌}
 use Rattle.aftr_base.specs.Bytes.{u8_at, u16_at, u32_at}
 use Rattle.aftr_base.specs.Value.{ip4, place}
 use Rattle.aftr_base.specs.declared.value.Ext.{Ext}
@@ -9,10 +9,19 @@ use Rattle.aftr_base.specs.declared.value.Side.TheVariants.{Softwire, Public}
 use Rattle.xlate_core.specs.declared.step_out.Item.{Item}
 use Rattle.xlate_core.specs.Packet.{is_fault}
 
--- where its IPv4 packet begins: in a softwire behind the IPv6 header
-abbrev pub inner_at : Side → ℕ
-inner_at Public = 0
-inner_at Softwire = 40
+-- whether a packet in a softwire is a fragment, whose Fragment header (44) is the next one
+abbrev pub is_fragment : List ℕ → Bool
+is_fragment bytes = u8_at 6 bytes == 44
+
+-- where its IPv4 packet begins: in a softwire behind the IPv6 header, and behind the Fragment header if there is one
+abbrev pub inner_at : Side → List ℕ → ℕ
+inner_at Public bytes = 0
+inner_at Softwire bytes = if is_fragment bytes then 48 else 40
+
+-- whether it is a whole packet, or the first piece of one, so that ports and identifiers stand in it
+abbrev pub is_first : Side → List ℕ → Bool
+is_first Public bytes = u16_at 6 bytes % 8192 == 0
+is_first Softwire bytes = not (is_fragment bytes) || u16_at 42 bytes / 8 == 0
 
 -- ---- in a packet without options that begins there
 
@@ -46,10 +55,10 @@ abbrev pub shows_by : Side → Bool → Bool
 shows_by Public query = true
 shows_by Softwire query = not query
 
--- the subscriber whose place it shows, where a source was translated
+-- the subscriber whose place it shows, where a source was translated; a later piece shows none
 abbrev pub sender_of : Item → Option Subscriber
-sender_of i = if shows_by i.side (is_query_at (inner_at i.side) i.bytes) then i.owner else None
+sender_of i = if is_first i.side i.bytes && shows_by i.side (is_query_at (inner_at i.side i.bytes) i.bytes) then i.owner else None
 
 -- the source address, and the source port or the identifier
 abbrev pub source_of : Item → Ext
-source_of i = let at = inner_at i.side in place (ip4 (u32_at (at + 12) i.bytes)) (port_at at i.bytes)
+source_of i = let at = inner_at i.side i.bytes in place (ip4 (u32_at (at + 12) i.bytes)) (port_at at i.bytes)

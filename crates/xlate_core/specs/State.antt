@@ -9,12 +9,13 @@ use Rattle.aftr_base.specs.declared.event.DropCause.{DropCause}
 use Rattle.aftr_base.specs.declared.event.LogEvent.{LogEvent}
 use Rattle.cfg_text.specs.declared.config.Config.{Config}
 use Rattle.frag_reasm.specs.declared.pieces.PartialDatagram.{PartialDatagram}
+use Rattle.fragment_ids.specs.declared.Count.{Count}
 use Rattle.nat_mapping.specs.Rows.{Mapping}
 use Rattle.xlate_core.specs.declared.step_out.Item.{Item}
 
 -- The clock is the greatest moment so far. A packet at or before the floor settles: up to there an earlier run may have
 -- named other subscribers. The log has promised names up to the horizon. Plans are carried along: none opens yet. Pieces are
--- kept of datagrams that aren't whole.
+-- kept of datagrams that aren't whole, and packets are counted that were cut for each subscriber's softwires.
 pub record State : Type 0 where
   pub config : Config
   pub clock : ℕ
@@ -24,6 +25,7 @@ pub record State : Type 0 where
   pub leases : List LeaseRow
   pub plans : List PlanRow
   pub kept : List PartialDatagram
+  pub cuts : List Count
 
 -- the greatest moment that a row of the state may bear
 abbrev pub latest : State → ℕ

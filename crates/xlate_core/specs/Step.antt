@@ -3,7 +3,7 @@ use Rattle.std.specs.Prelude.{ℕ, Bool, ◌&&◌, ◌||◌, nat_lt, List, [], �
 use Rattle.std.specs.Prelude.{true, false, Result, Ok, Err, if◌then◌else◌}
 use Rattle.std.specs.List.{list_any}
 use Rattle.aftr_base.specs.Value.{moment}
-use Rattle.aftr_base.specs.declared.value.Side.TheVariants.{Softwire as SoftwireSide, Public as PublicSide}
+use Rattle.aftr_base.specs.declared.value.Side.TheVariants.{Softwire as SoftwireSide}
 use Rattle.aftr_base.specs.declared.event.Event.{Event}
 use Rattle.aftr_base.specs.declared.event.EventKind.{EventKind}
 use Rattle.aftr_base.specs.declared.event.EventKind.TheVariants.{Softwire, Public, Tick, Change, Snapped, Foreign, Stray}
@@ -13,9 +13,9 @@ use Rattle.aftr_base.specs.declared.event.DropCause.{DropCause}
 use Rattle.aftr_base.specs.declared.event.DropCause.TheVariants.{Settling, Snapped as SnappedCause, BadPacket, NoProtocol}
 use Rattle.aftr_base.specs.declared.event.DropCause.TheVariants.{BadChange}
 use Rattle.wire_ip4.specs.Grammar.{Header}
-use Rattle.softwire.specs.Tunnel.{tunnel_packet}
 use Rattle.icmp_xlate.specs.declared.made.MadeError.{MadeError}
 use Rattle.nat_mapping.specs.Rows.{Mapping}
+use Rattle.wire_l4.specs.Grammar.{transport_bytes}
 use Rattle.xlate_core.specs.declared.step_out.Item.{Item}
 use Rattle.xlate_core.specs.declared.grant.Grant.{Grant}
 use Rattle.xlate_core.specs.declared.grant.Flow.{Flow}
@@ -25,6 +25,7 @@ use Rattle.ingress.specs.Arrival.{Arrival}
 use Rattle.ingress.specs.PublicSide.{is_ours, public_arrival}
 use Rattle.ingress.specs.SoftwireSide.{softwire_arrival}
 use Rattle.xlate_core.specs.State.{State, Step, is_past_horizon, item, reach_of}
+use Rattle.xlate_core.specs.Sending.{Sending, public_items, to_softwire}
 use Rattle.xlate_core.specs.Datagram.{Datagram, datagram_bytes, flags_of, is_answer, place_on, key_of, hairpinned, inner_place, translated}
 use Rattle.ingress.specs.declared.received.Sender.{Sender}
 use Rattle.xlate_core.specs.declared.packet.Content.{Content}
@@ -57,10 +58,14 @@ flow_of got = record {
 abbrev pub mapped : State → Outbound → Result Grant DropCause
 mapped s got = granted s (flow_of got)
 
+-- the datagram as it leaves
+abbrev pub turned : Outbound → Grant → Datagram
+turned got g = translated true g.place got.datagram
+
 abbrev pub sent_out : State → Outbound → Grant → Step
 sent_out s got g = record {
   state = after_grant (flow_of got) g s;
-  items = item s PublicSide (Some got.who.owner) (datagram_bytes (translated true g.place got.datagram)) ∷ [];
+  items = public_items s got.who.owner (turned got g).header (transport_bytes (turned got g).body);
   closings = [];
   openings = opening_events s g;
   drop = None;
@@ -68,22 +73,18 @@ sent_out s got g = record {
 
 -- ---- hairpins: from a subscriber to another one, or to itself, through the pool (RFC 4787 6)
 
--- the datagram as it would leave, which then comes in
-abbrev pub turned : Outbound → Grant → Datagram
-turned got g = translated true g.place got.datagram
-
--- the datagram as it goes to the softwire of its receiver, with its TOS as the traffic class (RFC 2473 6.4)
-abbrev pub hairpin_bytes : State → Outbound → Grant → Mapping → List ℕ
-hairpin_bytes s got g row =
+-- the datagram to the softwire of its receiver, with its TOS as the traffic class (RFC 2473 6.4)
+abbrev pub hairpin : State → Outbound → Grant → Mapping → Sending
+hairpin s got g row =
     let d = got.datagram in
-    tunnel_packet s.config.aftr row.key.softwire d.header.fields.tos 4 (datagram_bytes (hairpinned g.place (inner_place row.key) d))
+    to_softwire s (Some got.who.owner) row d.header.fields.tos (datagram_bytes (hairpinned g.place (inner_place row.key) d))
 
 -- It goes out and then comes in: first the sender's mapping is used, and then the receiver's, which may be the same.
 abbrev pub sent_back : State → Outbound → Grant → Mapping → Step
 sent_back s got g row =
     let kept = after_grant (flow_of got) g s in record {
-      state = record kept { rows = rows_inbound kept (arrival_of (turned got g)) };
-      items = item s SoftwireSide (Some got.who.owner) (hairpin_bytes s got g row) ∷ [];
+      state = record kept { rows = rows_inbound kept (arrival_of (turned got g)); cuts = (hairpin s got g row).cuts };
+      items = (hairpin s got g row).items;
       closings = [];
       openings = opening_events s g;
       drop = None;
@@ -121,12 +122,12 @@ answered s got cause e = record (dropped s cause) { items = item s SoftwireSide 
 abbrev pub refused : State → Received → DropCause → Step
 refused s got cause = elim (error_about s.config got.packet cause) [ None ↦ dropped s cause | Some e ↦ answered s got cause e ]
 
--- a packet that leaves all as it is, or the rule that refuses it
-abbrev pub relayed : State → Item → Step
-relayed s i = record (quiet s) { items = i ∷ [] }
+-- a packet that leaves all else as it is, or the rule that refuses it
+abbrev pub relayed : State → Sending → Step
+relayed s sent = record (quiet (record s { cuts = sent.cuts })) { items = sent.items }
 
-abbrev pub relayed_if : State → Result Item DropCause → Step
-relayed_if s r = elim r [ Err cause ↦ dropped s cause | Ok i ↦ relayed s i ]
+abbrev pub relayed_if : State → Result Sending DropCause → Step
+relayed_if s r = elim r [ Err cause ↦ dropped s cause | Ok sent ↦ relayed s sent ]
 
 -- ---- a whole packet of a subscriber
 
@@ -144,13 +145,14 @@ from_subscriber s got = elim (outward s.config got.packet) [ Err cause ↦ refus
 
 -- ---- inbound: from the public side to the softwire of the mapping at the destination
 
--- the datagram as it goes to the softwire of its mapping, with its TOS as the traffic class (RFC 2473 6.4)
-abbrev pub delivered_bytes : State → Datagram → Mapping → List ℕ
-delivered_bytes s d row =
-    tunnel_packet s.config.aftr row.key.softwire d.header.fields.tos 4 (datagram_bytes (translated false (inner_place row.key) d))
+-- the datagram to the softwire of its mapping, with its TOS as the traffic class (RFC 2473 6.4)
+abbrev pub delivery : State → Datagram → Mapping → Sending
+delivery s d row = to_softwire s None row d.header.fields.tos (datagram_bytes (translated false (inner_place row.key) d))
 
 abbrev pub sent_in : State → Datagram → Mapping → Step
-sent_in s d row = record (quiet (record s { rows = rows_inbound s (arrival_of d) })) { items = item s SoftwireSide None (delivered_bytes s d row) ∷ [] }
+sent_in s d row =
+    let sent = delivery s d row in
+    record (quiet (record s { rows = rows_inbound s (arrival_of d); cuts = sent.cuts })) { items = sent.items }
 
 abbrev pub content_in : State → Content → Step
 content_in s (Carries d) = elim (receiver_of s (arrival_of d)) [ Err cause ↦ dropped s cause | Ok row ↦ sent_in s d row ]

@@ -1,5 +1,5 @@
 //! What comes in by a mapping, from the public side or from another subscriber (RFC 4787 sections 5 and 6).
-ghost use Rattle.std.specs.Prelude.{◌≡◌, ◌<◌, ◌≤◌, ◌+◌, nat_le, length, slice_get, true, Ok, Err, None, Some, IfNone, IfSome, IfOk, IfErr};
+ghost use Rattle.std.specs.Prelude.{◌≡◌, ◌<◌, length, slice_get, true, Ok, Err, None, Some, IfNone, IfSome, IfOk, IfErr};
 ghost use Rattle.nat_mapping.specs.Rows.{Mapping, has_peer, mapping_of, row_at};
 ghost use Rattle.xlate_core.specs.Arrivals.{moved_peer, receiver_of, rows_inbound};
 ghost use Rattle.xlate_core.specs.Rows.{find_in, find_out};
@@ -14,22 +14,14 @@ use cfg_text::{Config, Filter};
 use nat_filter::admits;
 use nat_mapping::{Peer, Row, RowId};
 
-/// What a datagram that comes to a mapping says of itself: where it is from, the place that it is for, its length in bytes,
-/// and its control bits, which only TCP has.
+/// What a datagram that comes to a mapping says of itself: where it is from, the place that it is for, and its control bits,
+/// which only TCP has.
 #[derive(Clone, Copy, Debug)]
 pub(crate) struct Arrival {
     pub(crate) proto: Proto,
     pub(crate) from: Ext,
     pub(crate) to: Ext,
-    pub(crate) total: u16,
     pub(crate) flags: u8,
-}
-
-/// Whether a packet of this many bytes fits with an IPv6 header before it.
-pub(crate) fn fits_softwire(mtu: u16, total: u16) -> bool
-    ensures { result ≡ nat_le (40 + total) mtu }
-{
-    40 + u32::from(total) <= u32::from(mtu)
 }
 
 // whether a mapping admits a remote address, by the configured filter (RFC 4787 section 5)
@@ -50,16 +42,13 @@ fn by_address(config: &Config) -> bool
 
 impl Core {
     /// Where the row stands that a datagram comes in by, or the first rule that refuses it: `NoMapping` where the place has
-    /// none, `Filtered` where it doesn't admit the remote address, `NoProtocol` where the packet would have to be cut for the
-    /// softwire.
+    /// none, `Filtered` where it doesn't admit the remote address.
     pub(crate) fn receiver_of(&self, arrival: &Arrival) -> Result<RowId, DropCause>
         ensures receiver { IfOk result (λ id. (row : Mapping) × (slice_get self.now.rows id.0 ≡ Some row)
             × (receiver_of self.now arrival.now ≡ Ok row)) }
         ensures place { IfOk result
             (λ id. Some id ≡ row_at arrival.now.proto arrival.now.to self.now.rows) }
         ensures live { IfOk result (λ id. id.0 < length self.now.rows) }
-        ensures fits { IfOk result
-            (λ id. 40 + arrival.now.total ≤ self.now.config.softwire_mtu) }
         ensures refusal { IfErr result (λ cause. receiver_of self.now arrival.now ≡ Err cause) }
     {
         let Some(id) = self.find_in(arrival.proto, arrival.to) else {
@@ -68,10 +57,6 @@ impl Core {
         require(
             admits_from(&self.config, self.table.row(id), arrival.from.addr),
             DropCause::Filtered,
-        )?;
-        require(
-            fits_softwire(self.config.softwire_mtu, arrival.total),
-            DropCause::NoProtocol,
         )?;
         Ok(id)
     }

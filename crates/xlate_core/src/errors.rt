@@ -1,22 +1,23 @@
 //! ICMP errors (RFC 792): those that the translator makes, and those that it passes on with the packets that they quote
 //! (RFC 5508 section 4).
-ghost use Rattle.std.specs.Prelude.{◌≡◌, ◌≤◌, ◌+◌, length, false, Err, IfErr, IfOk, IfSome, Ok};
+ghost use Rattle.std.specs.Prelude.{◌≡◌, ◌≤◌, ◌+◌, length, false, None, IfOk, IfSome, OnOk};
+ghost use Rattle.softwire.specs.Tunnel.{carrier};
 ghost use Rattle.icmp_xlate.specs.Made.{error_packet, is_error};
 ghost use Rattle.nat_mapping.specs.Rows.{Mapping};
 ghost use Rattle.xlate_core.specs.Errors.{answer_bytes, error_about, error_back, error_for, error_from_public, error_from_subscriber};
-ghost use Rattle.xlate_core.specs.Errors.{error_key, error_onward, quoted_row};
-ghost use Rattle.xlate_core.specs.Step.{refused, relayed_if, with_horizon};
+ghost use Rattle.xlate_core.specs.Errors.{error_key, error_onward, error_out};
+ghost use Rattle.xlate_core.specs.Step.{refused, relayed, relayed_if, with_horizon};
 ghost use Rattle.xlate_core.specs.Stepped.{HasStepped};
 
-use crate::arrival::fits_softwire;
 use crate::inbound::inner_place;
-use crate::packet::require;
-use crate::step_out::{Item, StepOut};
+use crate::send::{fields_from, passage_to};
+use crate::step_out::StepOut;
 use crate::translator::Core;
-use aftr_base::{DropCause, Ext, InnerKey, List, NoMemory, Side, Subscriber};
+use aftr_base::{DropCause, Ext, InnerKey, Ip6, List, NoMemory, Packets, Side, Subscriber};
 use cfg_text::Config;
 use icmp_xlate::{IcmpError, MadeError, is_error, make_error};
 use ingress::{Packet, Received, Sender, is_ours};
+use softwire::encap;
 use std::alloc::Global;
 use wire_ip4::Ip4View;
 
@@ -72,6 +73,13 @@ fn error_key(who: Sender, error: &IcmpError<'_>) -> InnerKey
     }
 }
 
+// whose error goes out, and the external place of the mapping that it goes out by
+#[derive(Clone, Copy, Debug)]
+struct Origin {
+    owner: Subscriber,
+    place: Ext,
+}
+
 impl Core {
     /// Drops a subscriber's packet, and tells its sender of it where an error tells of that. `NoMemory` comes where there is
     /// none for the error.
@@ -106,11 +114,35 @@ impl Core {
         ensures short { IfOk result (λ v. length v.items ≤ 65535) }
     {
         let inner = made_error(alloc, error, &got.packet)?;
-        self.carried(alloc, inner.as_slice(), 0, got.who.softwire)
+        self.carried(alloc, inner.as_slice(), got.who.softwire)
     }
 
-    /// Passes a subscriber's error on, to the public side or back to a subscriber. The answer is the rule that refuses it:
-    /// `NoMapping` where what it quotes belongs to no mapping, `NoProtocol` where it would have to be cut for the softwire.
+    // the IPv6 packet that carries these bytes to a softwire
+    fn carried(&self, alloc: Global, inner: &[u8], softwire: Ip6) -> Result<Vec<u8>, NoMemory>
+        requires { 40 + length inner.now ≤ self.now.config.softwire_mtu }
+        ensures bytes { IfOk result
+            (λ v. v.items ≡ carrier self.now.config.aftr softwire 0 inner.now) }
+        ensures short { IfOk result (λ v. length v.items ≤ 65535) }
+    {
+        let config = &self.config;
+        let mut packets = Packets::new(alloc);
+        encap(
+            inner,
+            0,
+            config.aftr,
+            softwire,
+            config.softwire_mtu,
+            0,
+            &mut packets,
+        )?;
+        match packets.into_vec().pop() {
+            Some(bytes) => Ok(bytes),
+            None => unreachable!(),
+        }
+    }
+
+    /// Passes a subscriber's error on, to the public side or back to a subscriber. The answer is `NoMapping` where what it
+    /// quotes belongs to no mapping.
     pub(crate) fn relay_from_subscriber(
         &mut self,
         alloc: Global,
@@ -123,12 +155,18 @@ impl Core {
             (with_horizon (relayed_if self.old (error_from_subscriber self.old who error.now)))
             out.old self.new out.new cause) }
     {
-        let relayed = self.error_from_subscriber(alloc, who, error)?;
-        self.relay(relayed, out)
+        let Some(id) = self.find_out(&error_key(who, error)) else {
+            return Ok(Some(DropCause::NoMapping));
+        };
+        let origin = Origin {
+            owner: who.owner,
+            place: self.table.row(id).ext,
+        };
+        self.relay_onward(alloc, origin, error, out)
     }
 
-    /// Passes an error of the public side on to the softwire of the mapping that sent what it quotes. The answer is the rule
-    /// that refuses it, as above.
+    /// Passes an error of the public side on to the softwire of the mapping that sent what it quotes. The answer is `NoMapping`
+    /// where there is none.
     pub(crate) fn relay_from_public(
         &mut self,
         alloc: Global,
@@ -140,124 +178,74 @@ impl Core {
             (with_horizon (relayed_if self.old (error_from_public self.old error.now)))
             out.old self.new out.new cause) }
     {
-        let relayed = self.error_from_public(alloc, error)?;
-        self.relay(relayed, out)
+        let Some(id) = self.find_in(error.proto(), error.place(false)) else {
+            return Ok(Some(DropCause::NoMapping));
+        };
+        let row = self.table.row(id);
+        let passage = passage_to(row, None, error.fields().tos);
+        let inner = error.translated(alloc, false, inner_place(&row.key))?;
+        self.pass_in(alloc, passage, &inner, &mut out.items)?;
+        Ok(None)
     }
 
-    // sends a packet that leaves all as it is, but for the horizon, where it is of a subscriber
-    fn relay(
+    // from an external place to the public side, or back to a subscriber
+    fn relay_onward(
         &mut self,
-        relayed: Result<Item, DropCause>,
+        alloc: Global,
+        origin: Origin,
+        error: &IcmpError<'_>,
         out: &mut StepOut,
     ) -> Result<Option<DropCause>, NoMemory>
-        requires { IfOk relayed (λ i. length i.bytes ≤ 65535) }
         ensures { IfOk result
-            (λ cause. HasStepped
-            (with_horizon (relayed_if self.old relayed)) out.old self.new out.new cause) }
-    {
-        match relayed {
-            Err(cause) => Ok(Some(cause)),
-            Ok(item) => {
-                if item.owner.is_some() {
-                    self.raise_horizon(&mut out.log)?;
-                }
-                out.items.push(item)?;
-                Ok(None)
-            }
-        }
-    }
-
-    // the packet that a subscriber's error becomes, or the rule that refuses it
-    fn error_from_subscriber(
-        &self,
-        alloc: Global,
-        who: Sender,
-        error: &IcmpError<'_>,
-    ) -> Result<Result<Item, DropCause>, NoMemory>
-        ensures item { IfOk result (λ r. r ≡ error_from_subscriber self.now who error.now) }
-        ensures short { IfOk result (λ r. IfOk r (λ i. length i.bytes ≤ 65535)) }
-    {
-        match self.find_out(&error_key(who, error)) {
-            None => Ok(Err(DropCause::NoMapping)),
-            Some(id) => self.error_onward(alloc, who.owner, self.table.row(id).ext, error),
-        }
-    }
-
-    // to the public side from this external place, or back to a subscriber
-    fn error_onward(
-        &self,
-        alloc: Global,
-        owner: Subscriber,
-        src: Ext,
-        error: &IcmpError<'_>,
-    ) -> Result<Result<Item, DropCause>, NoMemory>
-        ensures item { IfOk result (λ r. (who : Sender) (row : Mapping) → who.owner ≡ owner → row.ext ≡ src
-            → r ≡ error_onward self.now who row error.now) }
-        ensures short { IfOk result (λ r. IfOk r (λ i. length i.bytes ≤ 65535)) }
+            (λ cause. (who : Sender) (row : Mapping) → who.owner ≡ origin.owner → row.ext ≡ origin.place → HasStepped
+            (with_horizon (relayed_if self.old (error_onward self.old who row error.now))) out.old self.new out.new cause) }
     {
         if is_ours(&self.config, error.fields().dst) {
-            return self.error_back(alloc, owner, src, error);
+            return self.relay_back(alloc, origin, error, out);
         }
-        let bytes = error.translated(alloc, true, src)?;
-        Ok(Ok(self.item(Side::Public, Some(owner), bytes)))
+        self.relay_out(alloc, origin, error, out)?;
+        Ok(None)
+    }
+
+    fn relay_out(
+        &mut self,
+        alloc: Global,
+        origin: Origin,
+        error: &IcmpError<'_>,
+        out: &mut StepOut,
+    ) -> Result<(), NoMemory>
+        ensures { OnOk result
+            ((who : Sender) (row : Mapping) → who.owner ≡ origin.owner → row.ext ≡ origin.place → HasStepped
+            (with_horizon (relayed self.old (error_out self.old who row error.now))) out.old self.new out.new None) }
+    {
+        let bytes = error.translated(alloc, true, origin.place)?;
+        let fields = fields_from(error.fields(), origin.place.addr);
+        let packets = self.cut_for_public(alloc, &fields, &bytes)?;
+        self.emit(Side::Public, Some(origin.owner), packets, &mut out.items)?;
+        self.raise_horizon(&mut out.log)?;
+        Ok(())
     }
 
     // from the external place in by the mapping at the place that it then quotes
-    fn error_back(
-        &self,
+    fn relay_back(
+        &mut self,
         alloc: Global,
-        owner: Subscriber,
-        src: Ext,
+        origin: Origin,
         error: &IcmpError<'_>,
-    ) -> Result<Result<Item, DropCause>, NoMemory>
-        ensures item { IfOk result (λ r. (who : Sender) (row : Mapping) → who.owner ≡ owner → row.ext ≡ src
-            → r ≡ error_back self.now who row error.now) }
-        ensures short { IfOk result (λ r. IfOk r (λ i. length i.bytes ≤ 65535)) }
+        out: &mut StepOut,
+    ) -> Result<Option<DropCause>, NoMemory>
+        ensures { IfOk result
+            (λ cause. (who : Sender) (row : Mapping) → who.owner ≡ origin.owner → row.ext ≡ origin.place → HasStepped
+            (with_horizon (relayed_if self.old (error_back self.old who row error.now))) out.old self.new out.new cause) }
     {
-        match self.quoted_row(error, error.place_from(src)) {
-            Err(cause) => Ok(Err(cause)),
-            Ok(key) => {
-                let inner = error.hairpinned(alloc, src, inner_place(&key))?;
-                let bytes = self.carried(alloc, &inner, error.fields().tos, key.softwire)?;
-                Ok(Ok(self.item(Side::Softwire, Some(owner), bytes)))
-            }
-        }
-    }
-
-    // the packet that an error of the public side becomes, or the rule that refuses it
-    fn error_from_public(
-        &self,
-        alloc: Global,
-        error: &IcmpError<'_>,
-    ) -> Result<Result<Item, DropCause>, NoMemory>
-        ensures item { IfOk result (λ r. r ≡ error_from_public self.now error.now) }
-        ensures short { IfOk result (λ r. IfOk r (λ i. length i.bytes ≤ 65535)) }
-    {
-        match self.quoted_row(error, error.place(false)) {
-            Err(cause) => Ok(Err(cause)),
-            Ok(key) => {
-                let inner = error.translated(alloc, false, inner_place(&key))?;
-                let bytes = self.carried(alloc, &inner, error.fields().tos, key.softwire)?;
-                Ok(Ok(self.item(Side::Softwire, None, bytes)))
-            }
-        }
-    }
-
-    // the key of the mapping at this place that an error goes in by
-    fn quoted_row(&self, error: &IcmpError<'_>, to: Ext) -> Result<InnerKey, DropCause>
-        ensures row { IfOk result (λ key. (row : Mapping) × (row.key ≡ key)
-            × (quoted_row self.now error.now to ≡ Ok row)) }
-        ensures fits { IfOk result
-            (λ key. 40 + error.now.header.fields.total ≤ self.now.config.softwire_mtu) }
-        ensures refusal { IfErr result (λ cause. quoted_row self.now error.now to ≡ Err cause) }
-    {
-        let Some(id) = self.find_in(error.proto(), to) else {
-            return Err(DropCause::NoMapping);
+        let Some(id) = self.find_in(error.proto(), error.place_from(origin.place)) else {
+            return Ok(Some(DropCause::NoMapping));
         };
-        require(
-            fits_softwire(self.config.softwire_mtu, error.fields().total),
-            DropCause::NoProtocol,
-        )?;
-        Ok(self.table.row(id).key)
+        let row = self.table.row(id);
+        let passage = passage_to(row, Some(origin.owner), error.fields().tos);
+        let inner = error.hairpinned(alloc, origin.place, inner_place(&row.key))?;
+        self.pass_in(alloc, passage, &inner, &mut out.items)?;
+        self.raise_horizon(&mut out.log)?; // it shows its sender as one that goes out does
+        Ok(None)
     }
 }

@@ -8,16 +8,17 @@ ghost use Rattle.xlate_core.specs.Datagram.{key_of};
 ghost use Rattle.xlate_core.specs.declared.grant.Grant.{Grant};
 ghost use Rattle.xlate_core.specs.Grant.{after_grant, granted, granted_only, opening_events};
 ghost use Rattle.xlate_core.specs.State.{State, is_past_horizon};
-ghost use Rattle.xlate_core.specs.Step.{flow_of, hairpin_bytes, hairpin_step, horizon_by, mapped, promise_by, sent_back, turned, with_horizon};
+ghost use Rattle.xlate_core.specs.Step.{flow_of, hairpin_step, horizon_by, mapped, promise_by, sent_back, turned, with_horizon};
 ghost use Rattle.xlate_core.specs.Stepped.{HasStepped};
 
 use crate::arrival::Arrival;
 use crate::grant::{Flow, Grant};
 use crate::inbound::inner_place;
 use crate::outbound::Admitted;
+use crate::send::passage_to;
 use crate::step_out::StepOut;
 use crate::translator::Core;
-use aftr_base::{DropCause, InnerKey, List, LogEvent, NoMemory, Side};
+use aftr_base::{DropCause, List, LogEvent, NoMemory};
 use nat_mapping::RowId;
 use std::alloc::Global;
 
@@ -104,7 +105,6 @@ impl Core {
         requires place { let to = arrival_of (turned admitted.now.got admitted.now.grant) in
             Some id ≡ row_at to.proto to.to self.old.rows }
         requires live { id.0 < length self.old.rows }
-        requires fits { 40 + admitted.now.got.datagram.header.fields.total ≤ self.old.config.softwire_mtu }
         requires row { let got = admitted.now.got in
             IfSome admitted.now.row (λ own. Some own ≡ row_of (key_of got.who.softwire got.datagram) self.old.rows) }
         ensures { (s : State) (row : Mapping) → (let got = admitted.now.got in let g = admitted.now.grant in
@@ -114,31 +114,15 @@ impl Core {
             → OnOk result (HasStepped (with_horizon (sent_back s got g row)) out.old self.new out.new None)) }
     {
         let flow = admitted.got.flow();
-        let arrival = admitted.got.datagram().arrival_from(admitted.grant.place);
-        let key = self.table.row(id).key;
-        let bytes = self.between(alloc, admitted, &key)?;
-        let item = self.item(Side::Softwire, Some(flow.who.owner), bytes);
-        out.items.push(item)?;
+        let datagram = admitted.got.datagram();
+        let src = admitted.grant.place;
+        let row = self.table.row(id);
+        let passage = passage_to(row, Some(flow.who.owner), datagram.fields().tos);
+        let inner = datagram.hairpinned(alloc, src, inner_place(&row.key))?;
         self.refresh_old(&flow, admitted.row)?;
-        self.follow(id, &arrival);
+        self.follow(id, &datagram.arrival_from(src));
+        self.pass_in(alloc, passage, &inner, &mut out.items)?;
         self.raise_horizon(&mut out.log)?;
         self.log_opening(&admitted.grant, &mut out.log)
-    }
-
-    // the datagram in the IPv6 packet that carries it to the softwire of the mapping that receives it
-    fn between(
-        &self,
-        alloc: Global,
-        admitted: &Admitted<'_>,
-        key: &InnerKey,
-    ) -> Result<Vec<u8>, NoMemory>
-        requires { 40 + admitted.now.got.datagram.header.fields.total ≤ self.now.config.softwire_mtu }
-        ensures bytes { IfOk result (λ v. (row : Mapping) → row.key ≡ key.now
-            → v.items ≡ hairpin_bytes self.now admitted.now.got admitted.now.grant row) }
-        ensures short { IfOk result (λ v. length v.items ≤ 65535) }
-    {
-        let datagram = admitted.got.datagram();
-        let inner = datagram.hairpinned(alloc, admitted.grant.place, inner_place(key))?;
-        self.carried(alloc, &inner, datagram.fields().tos, key.softwire)
     }
 }

@@ -1,22 +1,21 @@
 //! From the public side to the softwire of a mapping (RFC 6333 6.2).
-ghost use Rattle.std.specs.Prelude.{◌≡◌, ◌<◌, ◌≤◌, ◌+◌, [], length, slice_get, Err, None, Ok, Some, IfOk, OnOk};
-ghost use Rattle.softwire.specs.Tunnel.{carrier};
+ghost use Rattle.std.specs.Prelude.{◌≡◌, ◌<◌, ◌+◌, [], length, slice_get, Err, None, Ok, Some, IfOk, OnOk};
 ghost use Rattle.nat_mapping.specs.Rows.{Mapping, row_at};
 ghost use Rattle.xlate_core.specs.Arrivals.{arrival_of};
 ghost use Rattle.xlate_core.specs.Datagram.{inner_place};
 ghost use Rattle.xlate_core.specs.Inbound.{inward};
-ghost use Rattle.xlate_core.specs.Step.{content_in, delivered_bytes, from_public, inbound_step, sent_in, with_horizon};
+ghost use Rattle.xlate_core.specs.Step.{content_in, from_public, inbound_step, sent_in, with_horizon};
 ghost use Rattle.xlate_core.specs.Stepped.{HasStepped};
 ghost use Rattle.xlate_core.specs.declared.packet.Content.TheVariants.{Carries};
 
 use crate::packet::{Content, Datagram, content_of, is_routable, require};
+use crate::send::passage_to;
 use crate::step_out::StepOut;
 use crate::translator::Core;
-use aftr_base::{DropCause, Ext, InnerKey, Ip6, NoMemory, Packets, Side};
+use aftr_base::{DropCause, Ext, InnerKey, NoMemory};
 use cfg_text::Config;
 use ingress::{Packet, Refusal, is_ours};
 use nat_mapping::RowId;
-use softwire::encap;
 use std::alloc::Global;
 use wire_ip4::Ip4View;
 
@@ -126,62 +125,15 @@ impl Core {
         requires place { let to = arrival_of admitted.now.datagram in
             Some admitted.now.row ≡ row_at to.proto to.to self.old.rows }
         requires live { admitted.now.row.0 < length self.old.rows }
-        requires fits { 40 + admitted.now.datagram.header.fields.total
-            ≤ self.old.config.softwire_mtu }
         ensures { OnOk result ((row : Mapping) → slice_get self.old.rows admitted.now.row.0 ≡ Some row → HasStepped
-            (sent_in self.old admitted.now.datagram row) out.old self.new out.new None) }
+            (with_horizon (sent_in self.old admitted.now.datagram row)) out.old self.new out.new None) }
     {
-        let key = self.table.row(admitted.row).key;
-        let bytes = self.delivered(alloc, &admitted.datagram, &key)?;
-        let item = self.item(Side::Softwire, None, bytes);
-        out.items.push(item)?;
-        self.follow(admitted.row, &admitted.datagram.arrival());
+        let datagram = &admitted.datagram;
+        let row = self.table.row(admitted.row);
+        let passage = passage_to(row, None, datagram.fields().tos);
+        let inner = datagram.translated(alloc, false, inner_place(&row.key))?;
+        self.follow(admitted.row, &datagram.arrival());
+        self.pass_in(alloc, passage, &inner, &mut out.items)?;
         Ok(())
-    }
-
-    // the datagram in the IPv6 packet that carries it to the softwire of a mapping
-    fn delivered(
-        &self,
-        alloc: Global,
-        datagram: &Datagram<'_>,
-        key: &InnerKey,
-    ) -> Result<Vec<u8>, NoMemory>
-        requires { 40 + datagram.now.header.fields.total ≤ self.now.config.softwire_mtu }
-        ensures bytes { IfOk result (λ v. (row : Mapping) → row.key ≡ key.now
-            → v.items ≡ delivered_bytes self.now datagram.now row) }
-        ensures short { IfOk result (λ v. length v.items ≤ 65535) }
-    {
-        let inner = datagram.translated(alloc, false, inner_place(key))?;
-        self.carried(alloc, &inner, datagram.fields().tos, key.softwire)
-    }
-
-    /// The IPv6 packet that carries these bytes, with this traffic class, to a softwire. `NoMemory` comes where there is none for it.
-    pub(crate) fn carried(
-        &self,
-        alloc: Global,
-        inner: &[u8],
-        class: u8,
-        softwire: Ip6,
-    ) -> Result<Vec<u8>, NoMemory>
-        requires { 40 + length inner.now ≤ self.now.config.softwire_mtu }
-        ensures bytes { IfOk result
-            (λ v. v.items ≡ carrier self.now.config.aftr softwire class inner.now) }
-        ensures short { IfOk result (λ v. length v.items ≤ 65535) }
-    {
-        let config = &self.config;
-        let mut packets = Packets::new(alloc);
-        encap(
-            inner,
-            class,
-            config.aftr,
-            softwire,
-            config.softwire_mtu,
-            0,
-            &mut packets,
-        )?;
-        match packets.into_vec().pop() {
-            Some(bytes) => Ok(bytes),
-            None => unreachable!(),
-        }
     }
 }

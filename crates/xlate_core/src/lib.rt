@@ -12,6 +12,7 @@ mod inbound;
 mod laws;
 mod outbound;
 mod packet;
+mod send;
 mod start;
 mod step_out;
 mod translator;

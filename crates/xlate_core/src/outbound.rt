@@ -1,19 +1,24 @@
 //! From a subscriber to the public side (RFC 6333 5, 6; RFC 2473 3.3).
-ghost use Rattle.std.specs.Prelude.{◌≡◌, ◌+◌, [], length, Ok, Err, None, IfOk, IfErr, OnOk};
+ghost use Rattle.std.specs.Prelude.{◌≡◌, ◌+◌, [], true, length, Ok, Err, None, IfOk, IfErr, OnOk};
+ghost use Rattle.cfg_text.specs.Accepted.{is_accepted};
+ghost use Rattle.softwire.specs.Reading.{AreWithin};
 ghost use Rattle.nat_mapping.specs.Rows.{row_of};
 ghost use Rattle.xlate_core.specs.Datagram.{key_of};
 ghost use Rattle.xlate_core.specs.Outbound.{outward};
 ghost use Rattle.ingress.specs.PublicSide.{is_ours};
 ghost use Rattle.xlate_core.specs.Step.{content_out, flow_of, forwarding_step, from_subscriber, mapped, outbound_step};
-ghost use Rattle.xlate_core.specs.Step.{sent_by, sent_out, with_horizon};
+ghost use Rattle.softwire.specs.Cut.{cut_packet};
+ghost use Rattle.wire_l4.specs.Grammar.{transport_bytes};
+ghost use Rattle.xlate_core.specs.Step.{sent_by, sent_out, turned, with_horizon};
 ghost use Rattle.xlate_core.specs.Stepped.{HasStepped};
 ghost use Rattle.xlate_core.specs.declared.packet.Content.TheVariants.{Carries};
 
 use crate::grant::{Flow, Grant};
 use crate::packet::{Content, Datagram, content_of, has_route, require};
+use crate::send::fields_from;
 use crate::step_out::StepOut;
 use crate::translator::Core;
-use aftr_base::{DropCause, InnerKey, NoMemory, Side};
+use aftr_base::{DropCause, InnerKey, NoMemory, Packets, Side};
 use cfg_text::Config;
 use ingress::{Received, Refusal, Sender, from_softwire, is_ours};
 use nat_mapping::RowId;
@@ -45,9 +50,10 @@ fn outward<'a>(config: &Config, packet: Ip4View<'a>) -> Result<Content<'a>, Drop
     require(has_route(&packet), DropCause::NoRoute)?;
     let fields = packet.fields();
     let content = content_of(packet)?;
-    let fits = is_ours(config, fields.dst) || fields.total <= config.public_mtu;
-    require(fits || !fields.dont_cut, DropCause::TooBig)?;
-    require(fits, DropCause::NoProtocol)?;
+    let may_go = is_ours(config, fields.dst)
+        || fields.total <= config.public_mtu
+        || !fields.dont_cut;
+    require(may_go, DropCause::TooBig)?;
     Ok(content)
 }
 
@@ -207,14 +213,23 @@ impl Core {
             out.old self.new out.new None) }
     {
         let flow = admitted.got.flow();
-        let bytes = admitted
-            .got
-            .datagram()
-            .translated(alloc, true, admitted.grant.place)?;
-        let item = self.item(Side::Public, Some(flow.who.owner), bytes);
-        out.items.push(item)?;
+        let packets = self.cut_out(alloc, admitted)?;
+        self.emit(Side::Public, Some(flow.who.owner), packets, &mut out.items)?;
         self.keep(&flow, admitted.row, &admitted.grant)?;
         self.raise_horizon(&mut out.log)?;
         self.log_opening(&admitted.grant, &mut out.log)
+    }
+
+    // the packets in which an admitted datagram leaves
+    fn cut_out(&self, alloc: Global, admitted: &Admitted<'_>) -> Result<Packets, NoMemory>
+        ensures packets { IfOk result (λ packets. let sent = turned admitted.now.got admitted.now.grant in
+            packets ≡ cut_packet self.now.config.public_mtu sent.header (transport_bytes sent.body)) }
+        ensures short { IfOk result (λ packets. AreWithin 65535 packets) }
+        ensures accepted { OnOk result (is_accepted self.now.config ≡ true) }
+    {
+        let datagram = admitted.got.datagram();
+        let src = admitted.grant.place;
+        let bytes = datagram.translated(alloc, true, src)?;
+        self.cut_for_public(alloc, &fields_from(datagram.fields(), src.addr), &bytes)
     }
 }

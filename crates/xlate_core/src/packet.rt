@@ -288,9 +288,11 @@ fn answers(kind: IcmpKind) -> Result<bool, DropCause>
 }
 
 impl<'a> Datagram<'a> {
-    /// The fields of its header.
+    /// The fields of its header, which has no options, and whose TTL is at least 2.
     pub(crate) fn fields(&self) -> Ip4Fields
-        ensures { result ≡ self.now.header.fields }
+        ensures value { result ≡ self.now.header.fields }
+        ensures bare { self.now.header.options ≡ [] }
+        ensures alive { 2 ≤ self.now.header.fields.ttl }
     {
         self.packet.fields()
     }
@@ -335,7 +337,6 @@ impl<'a> Datagram<'a> {
             proto: self.proto,
             from: self.place(true),
             to: self.place(false),
-            total: self.packet.fields().total,
             flags: self.ends.flags,
         }
     }
@@ -380,6 +381,7 @@ impl<'a> Datagram<'a> {
         ensures bytes { IfOk result
             (λ v. v.items ≡ datagram_bytes (hairpinned src dst self.now)) }
         ensures total { IfOk result (λ v. length v.items ≡ self.now.header.fields.total) }
+        ensures short { IfOk result (λ v. length v.items ≤ 65535) }
     {
         let mut header = ArrayVec::new();
         self.packet

@@ -9,13 +9,14 @@ use crate::translator::Core;
 use aftr_base::{List, Moment, NoMemory, PlanRow, Told};
 use cfg_text::Config;
 use frag_reasm::Pieces;
+use fragment_ids::FragmentIds;
 use nat_mapping::{Table, TakenPorts};
 use port_blocks::Blocks;
 use std::alloc::Global;
 
 impl Core {
     /// The state at the start, under an accepted configuration and over what a log tells, whose rows have ended and whose
-    /// moments keep to the log's limit: no mapping, no piece, and the rows and the horizon as told. Up to the end of what is told
+    /// moments keep to the log's limit: no mapping, no piece, nothing cut, and the rows and the horizon as told. Up to the end of what is told
     /// packets settle, since until then the log may name others for the same ports.
     pub fn start(alloc: Global, config: Config, told: &Told) -> Result<Self, NoMemory>
         requires accepted { is_accepted config ≡ true }
@@ -36,6 +37,7 @@ impl Core {
             blocks,
             plans,
             kept: Pieces::new(alloc),
+            cuts: FragmentIds::new(alloc),
             all_used: false,
         })
     }

@@ -9,6 +9,7 @@ use crate::step_out::{Item, StepOut};
 use aftr_base::{DropCause, Event, EventKind, List, Moment, NoMemory, PlanRow, Side, Subscriber};
 use cfg_text::Config;
 use frag_reasm::Pieces;
+use fragment_ids::FragmentIds;
 use nat_mapping::{Table, TakenPorts};
 use port_blocks::Blocks;
 use std::alloc::Global;
@@ -30,6 +31,8 @@ pub struct Core {
     pub(crate) plans: List<PlanRow>,
     // of datagrams that aren't whole
     pub(crate) kept: Pieces,
+    // how many packets to each subscriber were cut
+    pub(crate) cuts: FragmentIds,
     // whether a row is known to have its place in each open lease, so that none is idle
     pub(crate) all_used: bool,
 }
@@ -54,6 +57,7 @@ impl Model for Core {
       leases = c.blocks.rows;
       plans = c.plans;
       kept = c.kept;
+      cuts = c.cuts.counts;
     } };
 
     ghost invariant = { λ c. (is_accepted c.config ≡ true) × (c.clock.0 ≤ moment_limit)

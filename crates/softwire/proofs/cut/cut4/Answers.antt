@@ -5,8 +5,8 @@ use Rattle.softwire.proofs.CutTold.{told}
 use Rattle.softwire.proofs.Joins.{joins_again}
 use Rattle.softwire.proofs.cut.cut4.Goals as goal
 
-pub add_cut-requires-clause-packet : goal.add_cut-requires-clause-packet
-add_cut-requires-clause-packet c =
+pub cut_with-requires-clause-packet : goal.cut_with-requires-clause-packet
+cut_with-requires-clause-packet c =
     let bytes : List ℕ = c.args.datagram.now in
     let x = c.in-Ok.packet in
     let (h, payload, again, none, whole) = c.requires.packet in
@@ -23,14 +23,14 @@ pub returns-clause-ok : goal.returns-clause-ok
 returns-clause-ok c =
     let bytes : List ℕ = c.args.datagram.now in
     let x = c.in-Ok.packet in
-    on_ok c.add_cut.result
+    on_ok c.cut_with.result
     (λ added h payload again none.
     let one = same_read (packet_of bytes) x (h, payload) c.in-Ok.ensures.value again in
     let bare : x.0.options ≡ [] = read_bare bytes x (h, payload) c.in-Ok.ensures.value again none in
     added h payload (sym (c.fields.ensures.value ∙ ap (λ (y : Header × List ℕ). y.0.fields) one)) none
     (c.front_of-whole.ensures ∙ ap (λ (l : List ℕ). take (20 + length l) bytes) c.payload.ensures
     ∙ whole_is bytes x c.in-Ok.ensures.spelled bare ∙ ap (λ (y : Header × List ℕ). header_bytes y.0 ++ y.1) one))
-    c.add_cut.ensures.ok
+    c.cut_with.ensures.ok
 
 pub returns-clause-joins : goal.returns-clause-joins
 returns-clause-joins c payload = joins_again c.args.mtu 20 payload (omega (arith, c.requires.mtu))

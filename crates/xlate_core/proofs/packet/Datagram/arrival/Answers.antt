@@ -1,5 +1,4 @@
 use Rattle.std.proofs.Common.{sym, ap, ◌∙◌}
-use Rattle.wire_ip4.specs.declared.fields.Ip4Fields.{Ip4Fields}
 use Rattle.wire_l4.specs.Places.{proto_of}
 use Rattle.xlate_core.specs.Datagram.{Datagram, flags_of}
 use Rattle.xlate_core.specs.declared.packet.Ends.{Ends}
@@ -12,5 +11,4 @@ returns c =
     arrival_is _ c.args.self.now
     (sym (proto_in c.self.inside.proto c.self.inside.packet.1) ∙ ap (λ (d : Datagram). proto_of d.body) c.self.view_is)
     c.place.ensures c.place-2.ensures
-    (ap (λ (f : Ip4Fields). f.total) c.fields.ensures.value ∙ ap (λ (d : Datagram). d.header.fields.total) c.self.view_is)
     (ap (λ (e : Ends). e.flags) c.self.invariant.read ∙ ap (λ (d : Datagram). flags_of d.body) c.self.view_is)

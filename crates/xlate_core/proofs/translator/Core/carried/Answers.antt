@@ -8,17 +8,17 @@ use Rattle.xlate_core.proofs.translator.Core.carried.Goals as goal
 pub returns-clause-bytes : goal.returns-clause-bytes
 returns-clause-bytes c =
     let inner = c.args.inner.now in
-    let sent = carrier c.self.inside.config.aftr c.args.softwire c.args.class inner in
+    let sent = carrier c.self.inside.config.aftr c.args.softwire 0 inner in
     let one = c.into_vec.ensures ∙ c.in_ok-encap.ensures.ok ∙ ap (λ (l : List (List ℕ)). l ++ sent ∷ []) c.new-packets.ensures in
     last_of (λ (v : Vec ℕ Global). v.items) c.pop.new.self.items c.into_vec.result.items c.in-Some.bytes sent one c.in-Some.ensures.items
-    ∙ ap (λ (s : State). carrier s.config.aftr c.args.softwire c.args.class inner) c.self.view_is
+    ∙ ap (λ (s : State). carrier s.config.aftr c.args.softwire 0 inner) c.self.view_is
 
 pub returns-clause-short : goal.returns-clause-short
 returns-clause-short c =
     let config = c.self.inside.config in
     let inner = c.args.inner.now in
-    let fields = tunnel_fields config.aftr c.args.softwire c.args.class 4 (length inner) in
-    let sent = carrier config.aftr c.args.softwire c.args.class inner in
+    let fields = tunnel_fields config.aftr c.args.softwire 0 4 (length inner) in
+    let sent = carrier config.aftr c.args.softwire 0 inner in
     let one = c.into_vec.ensures ∙ c.in_ok-encap.ensures.ok ∙ ap (λ (l : List (List ℕ)). l ++ sent ∷ []) c.new-packets.ensures in
     let made =
     last_of (λ (v : Vec ℕ Global). v.items) c.pop.new.self.items c.into_vec.result.items c.in-Some.bytes sent one c.in-Some.ensures.items in
