@@ -71,7 +71,8 @@ pub enum DropCause {
     /// A record that was captured in part.
     Snapped,
     /// Bytes that are no packet: of IPv6 (RFC 8200 section 3), with a chain of headers past the payload, of IPv4 (RFC 791
-    /// section 3.1), or of UDP (RFC 768).
+    /// section 3.1), of UDP (RFC 768), TCP (RFC 9293 section 3.1) or ICMP (RFC 792). A piece without a byte, or one before
+    /// others whose length isn't a multiple of 8. An ICMP error about what can't be translated.
     BadPacket,
     /// A packet from the softwire side that isn't for this end, or one from the public side that isn't for the pool.
     NotUs,
@@ -79,36 +80,39 @@ pub enum DropCause {
     NotTunnel,
     /// A packet whose softwire lies under no aggregate.
     UnknownSubscriber,
-    /// A piece over the limit of pieces or datagrams. It isn't given yet.
+    /// A piece over the limit of pieces of a datagram, or of datagrams in pieces of a subscriber or the public side.
     PieceTooMany,
-    /// A piece past the greatest length of a datagram. It isn't given yet.
+    /// A piece that ends past the greatest length of a datagram.
     PieceTooLong,
-    /// A piece that shares a byte with another. It isn't given yet.
+    /// A piece that shares a byte with another, or says another end of the datagram: its pieces are given up (RFC 5722
+    /// section 4).
     PieceOverlap,
     /// An IPv4 header with options.
     Options,
     /// A packet from or to an address that isn't routed, or from the public side with a source in the pool.
     NoRoute,
-    /// A packet that isn't translated: a piece, another protocol than UDP, one to the pool from a subscriber, or one that
-    /// would have to be cut; and a record of another ethertype.
+    /// A packet that isn't translated: of another protocol than UDP, TCP and ICMP, or an ICMP message that is neither echo
+    /// nor an error of the types 3, 11 and 12. A record of another ethertype.
     NoProtocol,
     /// A packet whose TTL is 0 or 1.
     TtlSpent,
     /// A packet for the public side that is longer than its MTU and may not be cut.
     TooBig,
-    /// A mapping more than a subscriber may have. It isn't given yet.
+    /// A packet that needs a mapping, of a subscriber that has its quota of mappings (RFC 6888 section 3).
     QuotaMappings,
-    /// A packet of a mapping to a further remote address, of a subscriber that has its quota of peers (RFC 6888 section 3).
+    /// A packet to a further remote endpoint, of a subscriber that has its quota of peers (RFC 6888 section 3).
     QuotaPeers,
-    /// A packet that needs a mapping, of a subscriber whose open block has no free port.
+    /// A packet that needs a mapping, of a subscriber that has its quota of blocks, and no free port in them (RFC 6888
+    /// section 3).
     QuotaBlocks,
-    /// A further block, where the subscriber's address has none that is free. It isn't given yet.
+    /// A packet that needs a further block, where the subscriber's address has none that is free.
     AddressFull,
     /// A packet that needs a mapping, of a subscriber without an open block, where no block is free.
     PoolEmpty,
-    /// A packet to a place of the pool that no mapping has.
+    /// A packet to a place of the pool that no mapping has, an ICMP error about a packet of no mapping, or an echo reply of
+    /// a subscriber that has no mapping.
     NoMapping,
-    /// A packet from a remote address that the mapping doesn't admit. It isn't given yet.
+    /// A packet from a remote address that the mapping doesn't admit (RFC 4787 section 5).
     Filtered,
     /// The text of a configuration: none is accepted.
     BadChange,

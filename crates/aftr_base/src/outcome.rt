@@ -153,9 +153,9 @@ pub enum Status {
     OutFault,
     /// The log is damaged: the first record that isn't sound begins at this offset in bytes, from 0.
     LogDamaged(u64),
-    /// The log ends at `tail`, and `need` bytes more would pass its `limit`, all in bytes. It isn't given.
+    /// The log ends at `tail`, and `need` bytes more would pass its `limit`, all in bytes.
     LogFull { tail: u64, need: u64, limit: u64 },
-    /// A run was asked for, and the log has this many bytes already.
+    /// A new log was asked for, and the file has this many bytes already.
     AlreadyThere(u64),
     /// Memory ran out.
     NoMemory,

@@ -117,7 +117,7 @@ impl Subscriber {
     }
 }
 
-/// A transport protocol: number 6, 17 or 1 in an IPv4 header (RFC 791 section 3.1). Only UDP is translated.
+/// A transport protocol: number 6, 17 or 1 in an IPv4 header (RFC 791 section 3.1).
 #[derive(Clone, Copy, Debug, PartialEq, Eq, Hash)]
 pub enum Proto {
     Tcp,
