@@ -33,6 +33,8 @@ mod grants;
 #[cfg(test)]
 mod hairpins;
 #[cfg(test)]
+mod identifications;
+#[cfg(test)]
 mod inputs;
 #[cfg(test)]
 mod logs;
