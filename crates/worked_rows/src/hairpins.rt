@@ -195,38 +195,38 @@ static LENGTHS: [Case<'static>; 2] = [
         log_after: LogFile::Frames(&[FIRST_FRAME]),
         ..RUN
     },
-    // It moves no deadline either.
+    // It moves the deadline and the horizon as one that isn't cut.
     Case {
-        name: "longer than that",
+        name: "longer than that, and cut, though it may not be as IPv4",
         input: &[
             HEAD,
             PACKET,
             "000005e6 01 0000000000124f80
             60000000 05b5 04 40 20010db8010000000000000000000002 20010db8000000000000000000000001
-            4500 05b5 0001 4000 40 11 b32c c0000002 c0000208 1388 0400 05a1 0000",
-            ZEROS,
-            ZEROS,
-            ZEROS,
-            ZEROS,
-            ZEROS,
-            ZEROS,
-            ZEROS,
-            ZEROS,
-            ZEROS,
-            ZEROS,
-            ZEROS,
-            ZEROS,
-            ZEROS,
-            ZEROS,
-            REST,
-            "00",
+            4500 05b5 0001 4000 40 11 b32c c0000002 c0000208 1388 0400 05a1 0000 00x1433",
             LATE,
             REPLY,
         ],
-        report: "records 3\nsent 1\nmarks 0\ndrop NoProtocol 1\ndrop NoMapping 1\n",
-        sent: &[FIRST_SENT],
-        log_after: LogFile::Frames(&[FIRST_FRAME, CLOSED_FRAME]),
-        drops: &[(DropCause::NoProtocol, 1), (DropCause::NoMapping, 1)],
+        report: "records 3\nsent 4\nmarks 0\n",
+        sent: &[
+            FIRST_SENT,
+            "000005e1 01 0000000000124f80
+            60000000 05b0 2c 40 20010db8000000000000000000000001 20010db8010000000000000000000002
+            04 00 0001 00000000
+            4500 05b5 0001 4000 3f 11 b42c c0000208 c0000002 0400 1388 05a1 0000 00x1420",
+            "00000046 01 0000000000124f80
+            60000000 0015 2c 40 20010db8000000000000000000000001 20010db8010000000000000000000002
+            04 00 05a8 00000000 00x13",
+            LATE_SENT,
+            REPLY_SENT,
+        ],
+        log_after: LogFile::Frames(&[
+            FIRST_FRAME,
+            Frame {
+                horizon: Some("0000000000124f80 0000000000125750"),
+                blocks: &[],
+            },
+        ]),
         ..RUN
     },
 ];
@@ -425,7 +425,7 @@ fn what_stays_of_it(rt: HostRuntime) {
 }
 
 #[test]
-fn no_packet_is_cut_for_it(rt: HostRuntime) {
+fn long_packets_between_subscribers(rt: HostRuntime) {
     check_all(&rt, &LENGTHS);
 }
 

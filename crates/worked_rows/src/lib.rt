@@ -1,5 +1,5 @@
 //! Tests that cross crates: the program's one call over objects in memory, against packets, logs and reports whose
-//! bytes were worked out by hand; and packets that are cut, which the program doesn't do yet, put together again.
+//! bytes were worked out by hand; and packets that are cut, put together again.
 //!
 //! A test of the program is a table of cases and one call of the driver, which makes the only call of the program.
 #![tactic(auto)]
@@ -10,6 +10,8 @@ mod case;
 mod configs;
 #[cfg(test)]
 mod connections;
+#[cfg(test)]
+mod cut_packets;
 #[cfg(test)]
 mod cuts;
 #[cfg(test)]
@@ -30,6 +32,8 @@ mod fragments;
 mod grants;
 #[cfg(test)]
 mod hairpins;
+#[cfg(test)]
+mod identifications;
 #[cfg(test)]
 mod inputs;
 #[cfg(test)]
