@@ -24,6 +24,7 @@ import model
 import random_logs
 import streams
 from cases import cases
+from cut_cases import cuts
 from error_cases import errors
 from log_digits import FIRST_LOG, RICH_LOG
 from log_form import EMPTY_LOG, Damaged, Told
@@ -165,9 +166,9 @@ def check_cases(comparison: Comparison) -> None:
 
 
 def check_exchanges(comparison: Comparison) -> None:
-    """Those of packets in pieces, all of whose outlet was worked out."""
-    for exchange in (*pieces(), *wholes()):
-        files: Files = {"config": b"", "log": EMPTY_LOG, "in": b"".join(exchange.records)}
+    """Those of packets in pieces and of packets that are cut, all of whose outlet was worked out."""
+    for exchange in (*pieces(), *wholes(), *cuts()):
+        files: Files = {"config": b"", "log": exchange.log, "in": b"".join(exchange.records)}
         config = model.Config(**exchange.config)
         left = {**model.answer(RUN, files, config).files, "out": b"".join(exchange.sent)}
         comparison.check(exchange.name, RUN, files, model.Answer(0, exchange.report(), left), config)

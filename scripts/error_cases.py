@@ -197,7 +197,6 @@ OUT_FAULTS = [
     *MESSAGES,
     *unusable(Udp(REMOTE, 53, INNER, 5000), Echo(REMOTE, INNER)),
     Fault("may not be cut", "TooBig", {"fragment": DONT_FRAGMENT, "quoted": (CAME + TOO_LONG)[: len(TOO_LONG)]}),
-    Fault("would be cut", "NoProtocol", {"quoted": (CAME + TOO_LONG)[: len(TOO_LONG)]}),
     Fault("about another port", "NoMapping", {"quoted": Udp(REMOTE, 53, INNER, 5001).spelled()}),
     Fault("about another address", "NoMapping", {"quoted": Udp(REMOTE, 53, INNER + 1, 5000).spelled()}),
     Fault("about TCP", "NoMapping", {"quoted": Tcp(REMOTE, 53, INNER, 5000).spelled()}),
@@ -212,7 +211,6 @@ IN_FAULTS = [
     Fault("about TCP", "NoMapping", {"quoted": Tcp(POOL, 1024, REMOTE, 53).spelled()}),
     Fault("about echo", "NoMapping", {"quoted": Echo(POOL, REMOTE, 1024).spelled()}),
     Fault("about what came", "NoMapping", {"quoted": Udp(REMOTE, 53, POOL, 1024).spelled()}),
-    Fault("would be cut", "NoProtocol", {"quoted": (LEFT + TOO_LONG)[: len(TOO_LONG) - 40]}),
 ]
 
 
@@ -228,16 +226,14 @@ def refused_in(name: str, cause: Optional[str], changes: Changes) -> Refusal:
 
 
 def refused() -> Iterator[Refusal]:
-    for fault in with_pairs(OUT_FAULTS):
+    for fault in with_pairs(OUT_FAULTS, {"quoted": (CAME + TOO_LONG)[: len(TOO_LONG)]}):
         yield refused_out(fault.name, fault.cause, fault.udp)
-    for fault in with_pairs(IN_FAULTS):
+    for fault in with_pairs(IN_FAULTS, {"quoted": (LEFT + TOO_LONG)[: len(TOO_LONG)]}):
         yield refused_in(fault.name, fault.cause, fault.udp)
     yield refused_in("a source in the pool", "NoRoute", {"source": POOL + 1})
     yield refused_out("by another softwire", "NoMapping", {}, host=3)
     to_nobody: Changes = {"destination": POOL, "quoted": Udp(POOL, 1025, INNER, 5000).spelled()}
     yield refused_out("to the pool, about a port of nobody", "NoMapping", to_nobody)
-    too_long = (Udp(POOL, 1024, INNER, 5000).spelled() + TOO_LONG)[: len(TOO_LONG)]
-    yield refused_out("too long for a softwire", "NoProtocol", {"destination": POOL, "quoted": too_long})
     as_echo = Echo(POOL, INNER).spelled()
     yield refused_out("to the pool, about echo", "NoMapping", {"destination": POOL, "quoted": as_echo})
 

@@ -5,6 +5,7 @@ from __future__ import annotations
 from collections import Counter
 from typing import Any, Callable, Dict, List, NamedTuple, Sequence
 
+from log_form import EMPTY_LOG
 from packets import AFTR, FROM_PUBLIC, FROM_SOFTWIRE, Softwire, Udp, frame, quad, softwire_of
 
 MOMENT = 1_000_000
@@ -25,6 +26,7 @@ class Exchange(NamedTuple):
     sent: Sequence[bytes]
     drops: Sequence[str] = ()
     config: Changes = {}  # what isn't by default; the program takes defaults alone, so others are the model's
+    log: bytes = EMPTY_LOG
 
     def report(self) -> str:
         counts = Counter(self.drops)

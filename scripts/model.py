@@ -3,8 +3,8 @@
 
 It is slow and short on purpose. Lists and dictionaries are searched, checksums are computed anew, and whole files are
 looked at; it shares no code and no order of work with the program. Called with the program's words it does what the
-program does on plain files. The log's bytes stand in log_form.py, those of packets in model_packets.py, pieces of packets in
-model_pieces.py.
+program does on plain files. The log's bytes stand in log_form.py, those of packets in model_packets.py, pieces that come in
+model_pieces.py, and how packets are cut in model_cutting.py.
 """
 
 from __future__ import annotations
@@ -19,10 +19,11 @@ from typing import Dict, Iterable, List, NamedTuple, Optional, Tuple
 
 import log_form
 from log_form import LAST_MOMENT, Batch, Damaged, Lease, Log, LogFull, Place, Prefix, Row, Told
-from model_packets import ACK, ECHO_REQUEST, FIN, FRAGMENT, ICMP, IPV4_IN_IPV6, IPV6_HEADER, MTU, POOL, RST, SYN, TCP
-from model_packets import TIME_EXCEEDED, UDP, UNREACHABLE, Drop, behind_ipv6, behind_options, flow_of, from_public
-from model_packets import from_softwire, ipv4_packet, is_error, is_piece, made_error, moved, number, place_of, require
-from model_packets import require_way_in, require_way_out, word
+from model_cutting import Cutter, for_public
+from model_packets import ACK, ECHO_REQUEST, FIN, FRAGMENT, ICMP, IPV4_IN_IPV6, MTU, POOL, RST, SYN, TCP, TIME_EXCEEDED
+from model_packets import UDP, UNREACHABLE, Drop, behind_options, flow_of, from_public, from_softwire, ipv4_packet
+from model_packets import is_error, is_piece, made_error, moved, number, place_of, require, require_way_in
+from model_packets import require_way_out, word
 from model_pieces import Reassembly, fragment_of, piece_of, whole_packet
 
 SUBSCRIBER_LENGTH = 56
@@ -176,6 +177,7 @@ class Translator:
         self.mappings: Dict[Inner, Mapping] = {}
         self.leases = told.leases  # in order of opening
         self.pieces = Reassembly()
+        self.cutter = Cutter()
         self.batch, self.sent = Batch(0), b""
         self.records = self.packets = 0
         self.drops: Counter[str] = Counter()
@@ -260,7 +262,7 @@ class Translator:
             return
         self.touch(mapping, packet)
         self.promise()
-        self.send(PUBLIC, moved(packet, True, mapping.place))
+        self.send(PUBLIC, for_public(moved(packet, True, mapping.place), self.config.public_mtu))
 
     def granted(self, inner: Inner, packet: bytes) -> Mapping:
         """The mapping that is there, where it may have the packet's remote, or a new one, which has it at once. An error or an
@@ -293,7 +295,6 @@ class Translator:
         from_outside = moved(packet, True, mapping.place)
         target = self.target_of(from_outside)
         require(is_error(packet) or self.admits(target, mapping.place.address), "Filtered")
-        require(IPV6_HEADER + len(packet) <= self.config.softwire_mtu, "NoProtocol")
         self.touch(mapping, packet)
         self.follow(target, from_outside)
         self.promise()
@@ -303,7 +304,6 @@ class Translator:
         require_way_in(packet)
         target = self.target_of(packet)
         require(is_error(packet) or self.admits(target, number(packet, 12, 4)), "Filtered")
-        require(IPV6_HEADER + len(packet) <= self.config.softwire_mtu, "NoProtocol")
         self.follow(target, packet)
         self.deliver(target, packet, 1)
 
@@ -386,11 +386,13 @@ class Translator:
     def send_inside(self, softwire: int, packet: Optional[bytes]) -> None:
         """Sends a packet, where there is one, into a softwire."""
         if packet is not None:
-            self.send(SOFTWIRE, behind_ipv6(packet, IPV4_IN_IPV6, packet[1], softwire))
+            mtu = self.config.softwire_mtu
+            self.send(SOFTWIRE, self.cutter.for_softwire(subscriber_of(softwire), softwire, packet, mtu))
 
-    def send(self, kind: int, packet: bytes) -> None:
-        self.packets += 1
-        self.sent += frame(kind, self.clock, packet)
+    def send(self, kind: int, packets: List[bytes]) -> None:
+        """Sends a packet: as it is, or as what it was cut into."""
+        self.packets += len(packets)
+        self.sent += b"".join(frame(kind, self.clock, packet) for packet in packets)
 
     def summary(self) -> str:
         lines = [f"records {self.records}", f"sent {self.packets}", "marks 0"]

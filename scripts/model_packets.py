@@ -1,6 +1,7 @@
 """What the plain model reads of packets, why it refuses them, and what it changes in them.
 
-Checksums are computed anew from all the bytes that they cover. Pieces of packets stand in model_pieces.py.
+Checksums are computed anew from all the bytes that they cover. Pieces that come stand in model_pieces.py, and those that
+packets are cut into in model_cutting.py.
 """
 
 from __future__ import annotations
@@ -147,9 +148,8 @@ def require_way_out(packet: bytes, mtu: int) -> None:
     is_tunnel = 0xC000_0000 <= destination <= 0xC000_0007  # 192.0.0.0/29 (RFC 6333 5.7)
     require(is_routed(source) and is_routed(destination) and not is_tunnel, "NoRoute")
     require_transport(packet)
-    may_pass = destination in POOL or len(packet) <= mtu or word(packet, 6) & DONT_FRAGMENT == 0
-    require(may_pass, "TooBig")
-    require(destination in POOL or len(packet) <= mtu, "NoProtocol")
+    may_be_cut = word(packet, 6) & DONT_FRAGMENT == 0
+    require(destination in POOL or len(packet) <= mtu or may_be_cut, "TooBig")
 
 
 def from_public(data: bytes) -> bytes:

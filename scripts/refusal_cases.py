@@ -76,6 +76,7 @@ def long_payload(total: int) -> bytes:
 
 
 TOO_LONG: Changes = {"fragment": DONT_FRAGMENT, "payload": long_payload(MTU + 1)}
+CUT: Changes = {"payload": long_payload(MTU + 1)}  # by either link
 
 
 def behind(next_header: int, chain: str) -> Changes:
@@ -143,7 +144,6 @@ FROM_SUBSCRIBERS = [
     *TRANSPORTS,
     Fault("a place in the pool without a mapping", "NoMapping", {"destination": POOL}),  # where nothing is too big
     Fault("a packet that may not be cut", "TooBig", TOO_LONG),
-    Fault("a packet that would be cut", "NoProtocol", {"payload": long_payload(MTU + 1)}),
 ]
 
 FROM_OUTSIDE = [
@@ -157,7 +157,6 @@ FROM_OUTSIDE = [
     Fault("a source in the pool", "NoRoute", {"source": quad("192.0.2.11")}),
     *TRANSPORTS,
     Fault("a port without a mapping", "NoMapping", {"port": 1025}),
-    Fault("a packet that would be cut", "NoProtocol", {"payload": long_payload(MTU - 40 + 1)}),
 ]
 
 
@@ -189,11 +188,12 @@ def both(first: Fault, second: Fault) -> Optional[Fault]:
     return fault._replace(udp=udp, around=around, is_early=first.is_early)
 
 
-def with_pairs(faults: Sequence[Fault]) -> Iterator[Fault]:
-    """Each fault alone, and each two of them in the order of their rules."""
+def with_pairs(faults: Sequence[Fault], cut: Changes) -> Iterator[Fault]:
+    """Each fault alone, each two of them in the order of their rules, and each in a packet that would be cut."""
+    in_cut = Fault("would be cut", "", cut)
     for at, first in enumerate(faults):
         yield first
-        pairs = (both(first, second) for second in faults[at + 1 :])
+        pairs = (both(first, second) for second in [*faults[at + 1 :], in_cut])
         yield from (pair for pair in pairs if pair is not None)
 
 
@@ -241,14 +241,12 @@ ECHOES_FROM_SUBSCRIBERS = [
     *MESSAGES,
     Fault("an address without a mapping", "NoMapping", {"destination": POOL + 1}),  # where nothing is too big
     Fault("a message that may not be cut", "TooBig", ECHO_TOO_LONG),
-    Fault("a message that would be cut", "NoProtocol", {"payload": bytes(MTU - 28 + 1)}),
     Fault("a reply to nobody", "NoMapping", {"kind": ECHO_REPLY, "identifier": 8}),
 ]
 ECHOES_FROM_OUTSIDE = [
     *MESSAGES,
     Fault("an identifier without a mapping", "NoMapping", {"identifier": 1025}),
     Fault("an address without a mapping", "NoMapping", {"destination": POOL + 1}),
-    Fault("a message that would be cut", "NoProtocol", {"payload": bytes(MTU - 40 - 28 + 1)}),
 ]
 # What passes, either way.
 ECHOES: Dict[str, Changes] = {
@@ -279,9 +277,9 @@ def echo_in(name: str, cause: Optional[str], echo: Changes) -> Refusal:
 
 def echoes() -> Iterator[Refusal]:
     """Echo messages, beside a mapping of identifier 7 at identifier 1024, or where UDP alone has that port."""
-    for fault in with_pairs(ECHOES_FROM_SUBSCRIBERS):
+    for fault in with_pairs(ECHOES_FROM_SUBSCRIBERS, CUT):
         yield echo_out(fault.name, fault.cause, fault.udp)
-    for fault in with_pairs(ECHOES_FROM_OUTSIDE):
+    for fault in with_pairs(ECHOES_FROM_OUTSIDE, CUT):
         yield echo_in(fault.name, fault.cause, fault.udp)
     for name, changes in ECHOES.items():
         yield echo_out(name, None, changes)
@@ -293,7 +291,6 @@ def echoes() -> Iterator[Refusal]:
     yield echo_out("a reply by another softwire", "NoMapping", {"kind": ECHO_REPLY}, {"source": softwire_of(0, 3)})
     yield echo_out("a request by another softwire", None, {}, {"source": softwire_of(0, 3)})
     yield echo_out("as long as may be", None, {"fragment": DONT_FRAGMENT, "payload": bytes(MTU - 28)})
-    yield echo_out("too long for a softwire", "NoProtocol", {"destination": POOL, "payload": bytes(MTU - 40 - 28 + 1)})
     yield echo_out("as long as a softwire takes", None, {"destination": POOL, "payload": bytes(MTU - 40 - 28)})
     yield echo_in("as long as a softwire takes", None, {"payload": bytes(MTU - 40 - 28)})
     yield echo_in("from another remote", None, {"source": quad("198.51.100.1")})
@@ -334,8 +331,6 @@ TO_POOL = [
     from_subscriber("from a new port to none", "NoMapping", {"source_port": 1, "destination": POOL}, {}),
     from_subscriber("from a new subscriber to none", "NoMapping", {"destination": POOL}, {"source": softwire_of(1)}),
     from_subscriber("by TCP to UDP", "NoMapping", {}, {"inner": Tcp(**OWN_PLACE).spelled(), "source": softwire_of(1)}),
-    from_subscriber("too long for a softwire", "NoProtocol", {**OWN_PLACE, "payload": long_payload(MTU - 40 + 1)}, {}),
-    from_subscriber("much too long for one", "NoProtocol", {**OWN_PLACE, **TOO_LONG}, {}),
     from_subscriber("a long one to no mapping", "NoMapping", {"destination": POOL, "payload": long_payload(MTU)}, {}),
     from_subscriber("to its own place", None, OWN_PLACE, {}),
     from_subscriber("from a new port", None, {**OWN_PLACE, "source_port": 1}, {}),
@@ -363,7 +358,6 @@ def by_address() -> Iterator[Refusal]:
         from_subscriber("from a new port", "Filtered", {**OWN_PLACE, "source_port": 1}, {}),
         from_subscriber("from a new subscriber", "Filtered", OWN_PLACE, other),
         from_subscriber("to its own new place", None, new_place, {}),
-        from_subscriber("to its own new place, too long", "NoProtocol", {**new_place, **too_long}, {}),
         from_subscriber("to its own new place by TCP", None, {}, {"inner": Tcp(**OWN_PLACE).spelled()}),
     ]
     other_remote: Changes = {"source": quad("203.0.113.6")}
@@ -469,9 +463,9 @@ def last_echo(name: str, before: List[bytes], cause: Optional[str], echo: Change
 
 def refusals() -> Iterator[Refusal]:
     """All cases."""
-    for fault in with_pairs(FROM_SUBSCRIBERS):
+    for fault in with_pairs(FROM_SUBSCRIBERS, CUT):
         yield from_subscriber(fault.name, fault.cause, fault.udp, fault.around, fault.is_early)
-    for fault in with_pairs(FROM_OUTSIDE):
+    for fault in with_pairs(FROM_OUTSIDE, CUT):
         yield from_outside(fault.name, fault.cause, fault.udp, fault.is_early)
     yield from MORE_FROM_SUBSCRIBERS
     yield from MORE_FROM_OUTSIDE

@@ -12,6 +12,7 @@ from packets import CHANGE, DONT_FRAGMENT, ECHO_REPLY, FROM_SOFTWIRE, MORE_FRAGM
 from packets import UNREACHABLE, Echo, Error, Softwire, Tcp, Udp, frame, quad, softwire_of
 from piece_cases import INSIDE, PAYLOAD, Step
 
+Packet = Union[Udp, Tcp, Echo]
 SENT = Udp(payload=PAYLOAD)
 LEFT = SENT._replace(source=POOL, source_port=1024, ttl=63)
 CAME = Udp(REMOTE, 53, POOL, 1024, PAYLOAD)
@@ -198,12 +199,12 @@ def errors_about_wholes() -> Iterator[Exchange]:
 class Flow(NamedTuple):
     """A subscriber's first packet, and packets both ways after it: as they are sent, and as they leave."""
 
-    first: Union[Tcp, Echo]
-    first_left: Union[Tcp, Echo]
-    sent: Union[Tcp, Echo]
-    left: Union[Tcp, Echo]
-    came: Union[Tcp, Echo]
-    delivered: Union[Tcp, Echo]
+    first: Packet
+    first_left: Packet
+    sent: Packet
+    left: Packet
+    came: Packet
+    delivered: Packet
 
 
 FLOWS = [
