@@ -527,7 +527,7 @@ class LongSession(Session):
             return self.rng.choice(edges)
         if step < 0.6:
             return size + self.rng.choice((FRAGMENT_DATA, PIECE_DATA)) * self.rng.randint(1, 3) + self.rng.randint(-60, 60)
-        return self.rng.randrange(6_000) if step < 0.96 else self.rng.randint(65_400, 65_475)
+        return self.rng.randrange(6_000) if step < 0.96 else self.rng.randint(65_380, 65_455)
 
     def add(self, kind: int, body: bytes, moment: Optional[int] = None) -> None:
         """A record, or several of the parts of its packet, in any order. One of them may be missing, or come twice."""
