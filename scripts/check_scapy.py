@@ -3,7 +3,7 @@
 scapy, all checks are skipped.
 
 What comes out must have the addresses, the ports and the quoted packets that are wanted, and each checksum that scapy
-computes for it. The last line is 'N passed, M failed', and the exit status 0 where M is 0. Usage: check_scapy.py [PROGRAM]
+computes for it. What was cut, scapy puts together first, and cuts it again itself. The last line is 'N passed, M failed', and the exit status 0 where M is 0. Usage: check_scapy.py [PROGRAM]
 """
 
 from __future__ import annotations
@@ -20,8 +20,8 @@ from model import records_of
 from packets import FROM_PUBLIC, FROM_SOFTWIRE, frame, softwire_of
 
 try:
-    from scapy.layers.inet import ICMP, IP, TCP, UDP, IPerror
-    from scapy.layers.inet6 import IPv6
+    from scapy.layers.inet import ICMP, IP, TCP, UDP, IPerror, defragment, fragment
+    from scapy.layers.inet6 import IPv6, IPv6ExtHdrFragment, defragment6, fragment6
 except ImportError:
     IP = None
 
@@ -31,6 +31,7 @@ AFTR, SOFTWIRE, OTHER_SOFTWIRE = "2001:db8::1", "2001:db8:100::2", "2001:db8:100
 INNER, POOL, REMOTE, ROUTER, TUNNEL = "192.0.0.2", "192.0.2.8", "203.0.113.5", "198.51.100.1", "192.0.0.1"
 SUBSCRIBERS = 504  # for whom the pool has blocks
 MTU = 1500
+LONG = bytes(number * 7 % 251 for number in range(5_000))  # it is cut on each link
 
 
 class Complaint(Exception):
@@ -48,12 +49,13 @@ class Flow(NamedTuple):
     name: str
     sent: Any
     answer: Callable[[int], Any]
+    data: bytes = b"a question"
 
     def out(self, destination: str = REMOTE) -> Any:
-        return IP(src=INNER, dst=destination, id=7) / self.sent / b"a question"
+        return IP(src=INNER, dst=destination, id=7) / self.sent / self.data
 
     def back(self, place: Any) -> Any:
-        return IP(src=REMOTE, dst=place.src, id=8) / self.answer(port_of(place, True)) / b"an answer"
+        return IP(src=REMOTE, dst=place.src, id=8) / self.answer(port_of(place, True)) / self.data
 
 
 def flow_of(name: str) -> Flow:
@@ -73,6 +75,7 @@ class Program:
     def __init__(self, path: str, folder: str) -> None:
         self.path = path
         self.folder = folder
+        self.cut = 0  # of all packets so far
 
     def call(self, *words: str) -> str:
         done = subprocess.run(
@@ -92,7 +95,40 @@ class Program:
         demand([line for line in printed.splitlines() if line.startswith("drop")], list(drops), "dropped is")
         with open(os.path.join(self.folder, "out"), "rb") as source:
             found, _ = records_of(source.read())
-        return [IPv6(record.body) if record.kind == FROM_SOFTWIRE else IP(record.body) for record in found]
+        packets = [IPv6(record.body) if record.kind == FROM_SOFTWIRE else IP(record.body) for record in found]
+        whole = list(put_together(packets))
+        self.cut += sum(len(parts) > 1 for _, parts in whole)
+        return [packet for packet, _ in whole]
+
+
+def put_together(packets: Sequence[Any]) -> Iterator[Tuple[Any, List[Any]]]:
+    """Each packet as scapy makes it of its parts, which stand one behind the other, and those."""
+    parts: List[Any] = []
+    for packet in packets:
+        demand(max(len(bytes(packet)), MTU), MTU, "the length of a packet on its link is")
+        parts.append(packet)
+        is_fragment = IPv6ExtHdrFragment in packet
+        has_more = packet[IPv6ExtHdrFragment].m == 1 if is_fragment else packet.version == 4 and packet.flags.MF
+        if not has_more:
+            yield (joined(parts, is_fragment) if len(parts) > 1 else packet), parts
+            parts = []
+    demand(parts, [], "left of the last packet are")
+
+
+def joined(parts: Sequence[Any], are_fragments: bool) -> Any:
+    """What scapy makes of all these. Cut by scapy it has these parts again."""
+    if are_fragments:
+        whole, head = defragment6(list(parts)), parts[0].copy()
+        identification = head[IPv6ExtHdrFragment].id
+        head.remove_payload()
+        again = fragment6(head / IPv6ExtHdrFragment(id=identification, nh=4) / whole[IP], MTU)
+    else:
+        found = defragment(list(parts))
+        demand(len(found), 1, "the number of packets of these pieces is")
+        whole = found[0]
+        again = fragment(whole, MTU - 20)
+    demand([bytes(part).hex() for part in parts], [bytes(part).hex() for part in again], "the parts are")
+    return whole
 
 
 def from_softwire(packet: Any, softwire: str = SOFTWIRE) -> bytes:
@@ -222,7 +258,7 @@ def made_errors(program: Program, flow: Flow) -> None:
     last = flow.out()
     last.ttl = 1
     demand_made(program.sent([from_softwire(last)], "drop TtlSpent 1")[0], 11, 0, last)
-    long = IP(src=INNER, dst=REMOTE, flags="DF") / flow.sent / bytes(MTU)
+    long = IP(src=INNER, dst=REMOTE, flags="DF") / flow.sent / (flow.data + bytes(MTU))
     came = demand_made(program.sent([from_softwire(long)], "drop TooBig 1")[0], 3, 4, long)
     demand(came[ICMP].nexthopmtu, MTU, "the MTU of the next hop is")
     about = error_about(flow.out(), INNER, REMOTE, 11, 0)
@@ -240,6 +276,45 @@ def no_room(program: Program) -> None:
     demand_made(found[-1], 3, 1, out)
 
 
+# ---- packets that are cut
+
+
+def cut_both_ways(program: Program, flow: Flow) -> None:
+    """A long packet and its answer have all their bytes, and so has one that scapy cut before."""
+    out = flow.out()
+    whole = from_softwire(out)
+    left = outside(program.sent([whole])[0])
+    demand_place(left, True, POOL, port_of(left, True), "packet")
+    demand_data(left, flow.data)
+    back = flow.back(left)
+    pieces = [from_softwire(piece) for piece in fragment(out, 1000)]
+    for parts, answers in (([whole], [back]), (pieces, fragment(back, 800))):
+        found = program.sent([*parts, *map(from_public, answers)])
+        demand(bytes(outside(found[0])).hex(), bytes(left).hex(), "the packet that leaves is")
+        came = inside(found[1])
+        demand_place(came, False, INNER, 5000, "answer")
+        demand_data(came, flow.data)
+    demand(program.cut, 5, "the number of packets that were cut is")
+
+
+def demand_data(packet: Any, data: bytes) -> None:
+    demand(bytes(packet.payload.payload).hex(), data.hex(), "the data is")
+
+
+def cut_between(program: Program, flow: Flow) -> None:
+    """A long packet to another subscriber, which may be cut on its way there, though not as for the public side."""
+    place = program.sent([from_softwire(flow.out())])[0]
+    transport, is_echo = flow.sent.copy(), flow.name == "echo"
+    if not is_echo:
+        transport.dport = port_of(place, True)
+    out = IP(src=INNER, dst=POOL, id=7, flags="DF") / transport / flow.data
+    cut, sender = program.cut, SOFTWIRE if is_echo else OTHER_SOFTWIRE
+    came = inside(program.sent([from_softwire(flow.out()), from_softwire(out, sender)])[1])
+    demand_place(came, False, INNER, 5000, "packet")
+    demand_data(came, flow.data)
+    demand((str(came.flags), program.cut - cut), ("DF", 2), "its flags, and the number of packets that were cut, are")
+
+
 class Check(NamedTuple):
     name: str
     run: Callable[[Program, Flow], None]
@@ -255,15 +330,27 @@ ERRORS = [
 ]
 
 
+CUTS = [Check("cut both ways", cut_both_ways), Check("cut between subscribers", cut_between)]
+
+
 def all_checks() -> Iterator[Tuple[str, Callable[[Program], None]]]:
     yield "no room", no_room
     for name in ("UDP", "TCP", "echo"):
         for check in ERRORS:
             yield f"{name}: {check.name}", partial(run_check, check, name)
+        for check in ERRORS[:-1] + CUTS:
+            yield f"{name} of {len(LONG)} bytes: {check.name}", partial(run_long_check, check, name)
 
 
 def run_check(check: Check, name: str, program: Program) -> None:
     check.run(program, flow_of(name))
+    demand(program.cut, 0, "the number of packets that were cut is")
+
+
+def run_long_check(check: Check, name: str, program: Program) -> None:
+    check.run(program, flow_of(name)._replace(data=LONG))
+    if program.cut == 0:
+        raise Complaint("no packet was cut")
 
 
 # ---- whether there is scapy

@@ -265,7 +265,7 @@ def compare_stream(comparison: Comparison, seed: int, number: int, traces: int) 
     label = f"seed {seed}, stream {number}"
     rare = {10: streams.full_block, 30: streams.long_input, 60: streams.full_pool, 80: streams.long_input}
     usual = [streams.ordinary] * 10 + [streams.mutated] * 4 + [streams.connections] * 3 + [streams.inward] * 3
-    usual += [streams.echoes] * 3 + [streams.errors] * 4
+    usual += [streams.echoes] * 3 + [streams.errors] * 4 + [streams.long_packets] * 8
     compare_run(comparison, label, rng, rare.get(number % 100, rng.choice(usual))(rng), traces)
     if number % 100 == 40:
         compare_cuts(comparison, label, rng)

@@ -31,7 +31,7 @@ from growing_log import Changed, GrowingLog, Step
 from log_form import Batch, Damaged, Lease, Prefix, Told, read_log, spelled_log
 from model import SUBSCRIBER_LENGTH, told_lines, trace_line
 from packets import quad, softwire_of
-from senders import NoOutlet, Promises, Sent, Stream, closed, keeps, misnamed, whole_packets
+from senders import NoOutlet, Promises, Sent, Stream, closed, ends_in_pieces, keeps, misnamed, whole_packets
 from work_folder import WorkFiles, work_folder
 
 FIRST_MOMENT = 1_000_000
@@ -141,6 +141,7 @@ class Trial:
         demand(not early, f"a packet left at {early[:1]}, and the log tells up to {floor} what was before")
         self.counts["ended" if not was_running else "amid" if found else "early"] += 1
         self.counts["cut"] += cut > 0
+        self.counts["apart"] += ends_in_pieces(found)
         self.counts["gated"] += len(self.files.read("log")) > self.told.tail
         self.ask(packets[-self.asked // 4 :] + self.some(self.packets, self.asked - self.asked // 4))
 
@@ -158,8 +159,11 @@ class Trial:
         """Last, a run that nobody kills."""
         self.files.write("in", self.stream.part(self.told.end() + 1, self.records))
         printed, _ = self.files.run("last", "in")
-        packets, cut = whole_packets(self.files.read("last"))
+        found = self.files.read("last")
+        packets, cut = whole_packets(found)
+        demand(not ends_in_pieces(found), "of the last run's last packet a piece is missing")
         demand(f"sent {len(packets)}\n" in printed and packets != [] and cut == 0, f"the last run prints {printed!r}")
+        demand(any(packet.is_later for packet in packets), "no packet of the last run was cut")
         self.promises.add(packets)
         self.look("after the last run")
 
@@ -250,11 +254,12 @@ def kill_recoveries(trial: Trial, kills: int) -> None:
 
 def summary(trial: Trial) -> str:
     counts = trial.counts
-    kills = counts["amid"] + counts["early"] + counts["ended"]
+    kills, pieces = counts["amid"] + counts["early"] + counts["ended"], sum(packet.is_later for packet in trial.packets)
     return (
         f"{kills} kills of runs of {trial.records} records: {counts['amid']} amid the sending, "
-        f"{counts['early']} before the first packet, {counts['ended']} after the end; {counts['cut']} cut a packet, "
-        f"{counts['gated']} left bytes behind the closed gate; {len(trial.packets)} packets named, "
+        f"{counts['early']} before the first packet, {counts['ended']} after the end; {counts['cut']} cut a record, "
+        f"{counts['apart']} came between a packet's pieces, {counts['gated']} left bytes behind the closed gate; "
+        f"{len(trial.packets)} packets named, {pieces} of them pieces behind a first one, "
         f"{counts['asked']} asked; {counts['recoveries']} recoveries killed, {counts['halves']} between their frames"
     )
 

@@ -1,7 +1,8 @@
 """Packets that bear their sender's number, and whom a log names for them.
 
 A subscriber's packet has the number of its prefix in its payload, an error in that of the packet that it quotes, and the
-program leaves it as it is. So whose a sent packet was is known from the outlet alone, whatever the program or its log says.
+program leaves it as it is. A long packet has it again and again, so that each piece bears it that it is cut into. So whose a
+sent packet was is known from the outlet alone, whatever the program or its log says.
 """
 
 from __future__ import annotations
@@ -9,11 +10,11 @@ from __future__ import annotations
 import random
 import struct
 from collections import defaultdict
-from typing import Dict, List, NamedTuple, Optional, Tuple
+from typing import Dict, Iterator, List, NamedTuple, Optional, Tuple
 
 from log_form import Lease, Place, Prefix, Told
 from model import SUBSCRIBER_LENGTH, block_of, blocks_under, lease_line, prefix_text, quad_text
-from model_packets import ICMP, IPV4_HEADER, POOL, UDP, checksum, number, word
+from model_packets import FRAGMENT_OFFSET, ICMP, IPV4_HEADER, MORE_FRAGMENTS, POOL, UDP, checksum, number, word
 from packets import ECHO_REQUEST, FROM_PUBLIC, FROM_SOFTWIRE, UNREACHABLE, Echo, Error, Softwire, Udp, frame, quad
 from packets import softwire_of
 
@@ -23,6 +24,7 @@ INNER, MTU = quad("192.0.0.2"), 1500
 FRAME_HEAD = struct.Struct(">IBQ")
 FIRST_REMOTE, REMOTES = quad("203.0.113.1"), 16
 STEPS = (0, 1, 300, 900)  # between moments; the horizon is 2,000 ahead
+TIMES = (183, 190, 400, 900)  # that a long packet has its number: its last piece has it once at least
 
 
 class NoOutlet(Exception):
@@ -30,11 +32,12 @@ class NoOutlet(Exception):
 
 
 class Sent(NamedTuple):
-    """A packet as it left: from which place and when, and whose it was."""
+    """A packet as it left, or a piece of one: from which place and when, and whose it was."""
 
     place: Place
     moment: int
     owner: Prefix
+    is_later: bool = False  # a piece without a port, which is behind the one that has it
 
     def words(self) -> Tuple[str, str, str]:
         """What `trace` is asked."""
@@ -48,8 +51,8 @@ class Sent(NamedTuple):
 class Stream:
     """Inputs one after another. Their moments and subscribers rise all along, so new mappings never end.
 
-    At each moment a few subscribers send from a few ports, datagrams mostly, but echo requests and errors too. Every 20
-    packets another one takes the place of the first, and now and then one of long ago comes back.
+    At each moment a few subscribers send from a few ports, datagrams mostly, but echo requests and errors too. Some are so long
+    that they are cut. Every 20 packets another one takes the place of the first, and now and then one of long ago comes back.
     """
 
     def __init__(self, seed: int) -> None:
@@ -68,6 +71,8 @@ class Stream:
         oldest = 0 if self.random.random() < 0.02 else newest - 12
         subscriber = self.random.randrange(oldest, newest) % (1 << 16)
         payload = PAYLOAD.pack(subscriber, self.count % (1 << 32))
+        if self.random.random() < 0.15:
+            payload *= self.random.choice(TIMES)
         port, remote = 5000 + self.random.randrange(8), FIRST_REMOTE + self.random.randrange(REMOTES)
         self.count += 1
         inner, step = Udp(source_port=port, destination=remote, payload=payload).spelled(), self.random.random()
@@ -97,7 +102,13 @@ def records_in(outlet: bytes) -> Tuple[List[Tuple[int, bytes]], int]:
 def whole_packets(outlet: bytes) -> Tuple[List[Sent], int]:
     """The packets that stand whole in an outlet, and how many bytes of one more stand behind them."""
     records, rest = records_in(outlet)
-    return [sent_packet(moment, packet) for moment, packet in records], rest
+    return list(sent_packets(records)), rest
+
+
+def ends_in_pieces(outlet: bytes) -> bool:
+    """Whether a later piece is missing of the last packet that stands in an outlet, or stands there in part."""
+    records, _ = records_in(outlet)
+    return len(records) > 0 and word(records[-1][1], 6) & MORE_FRAGMENTS != 0
 
 
 def port_of(packet: bytes) -> Tuple[int, int]:
@@ -112,13 +123,29 @@ def port_of(packet: bytes) -> Tuple[int, int]:
     raise NoOutlet(f"the outlet has a packet of another kind: {packet.hex()}")
 
 
-def sent_packet(moment: int, packet: bytes) -> Sent:
-    port, at = port_of(packet)
-    place = Place(number(packet, 12, 4), port)
-    subscriber, count = PAYLOAD.unpack_from(packet, at)
-    if packet[0] != 0x45 or checksum(packet[:IPV4_HEADER]) != 0 or place.address not in POOL:
-        raise NoOutlet(f"packet {count} of the outlet isn't right")
-    return Sent(place, moment, Prefix(softwire_of(subscriber, 0), SUBSCRIBER_LENGTH))
+def sent_packets(records: List[Tuple[int, bytes]]) -> Iterator[Sent]:
+    """What left. Pieces of a packet stand one behind the other, at one moment, and the first one alone has the port."""
+    place, at, front, next_offset = Place(0, 0), 0, (0, b""), 0
+    for moment, packet in records:
+        flags, is_later = word(packet, 6), next_offset > 0
+        if not is_later:
+            port, at = port_of(packet)
+            place = Place(number(packet, 12, 4), port)
+            front = moment, common_bytes(packet)
+        elif front != (moment, common_bytes(packet)):
+            raise NoOutlet(f"behind a piece comes no other one of its packet, but {packet[:28].hex()} at {moment}")
+        where = IPV4_HEADER + (at - IPV4_HEADER) % PAYLOAD.size if is_later else at
+        subscriber, count = PAYLOAD.unpack_from(packet, where)
+        is_right = packet[0] == 0x45 and checksum(packet[:IPV4_HEADER]) == 0 and place.address in POOL
+        if not is_right or 8 * (flags & FRAGMENT_OFFSET) != next_offset:
+            raise NoOutlet(f"packet {count} of the outlet isn't right")
+        next_offset = next_offset + len(packet) - IPV4_HEADER if flags & MORE_FRAGMENTS else 0
+        yield Sent(place, moment, Prefix(softwire_of(subscriber, 0), SUBSCRIBER_LENGTH), is_later)
+
+
+def common_bytes(packet: bytes) -> bytes:
+    """What all pieces of a packet have in common: identification, hops, protocol and addresses."""
+    return packet[4:6] + packet[8:10] + packet[12:20]
 
 
 class Names:

@@ -8,10 +8,11 @@ import struct
 from typing import Any, Callable, Dict, List, NamedTuple, Optional, Sequence, Type
 
 import model
+from fragments import ipv4_pieces, tunnel_fragments
 from log_form import Place, Told
 from model import CHANGE, PUBLIC, SOFTWIRE, TICK, Inner, Mapping, Remote, Translator
-from model_packets import AFTR, ICMP, POOL, QUOTED, TCP, UDP, is_quoted_enough, moved, number, sum_place
-from model_packets import word
+from model_packets import AFTR, ICMP, IPV4_IN_IPV6, IPV6_HEADER, POOL, QUOTED, TCP, UDP, is_quoted_enough, moved, number
+from model_packets import sum_place, word
 from packets import ACK, DONT_FRAGMENT, FIN, RST, SYN, Echo, Error, Softwire, Tcp, Udp, checksum, softwire_of
 from refusal_cases import FROM_OUTSIDE, FROM_SUBSCRIBERS, Fault
 
@@ -32,6 +33,8 @@ EDGE_ADDRESSES = quads(
     "240.0.0.0 255.255.255.255 191.255.255.255 192.0.0.0 192.0.0.7 192.0.0.8 192.0.2.7 192.0.2.8 192.0.2.11 192.0.2.12"
 )
 EDGE_PORTS = (0, 1, 1023, 1024, 1025, 1535, 1536, 1537, 2048, 65535)
+FRAGMENT_DATA, PIECE_DATA = 1448, 1480  # what a full fragment, and a full piece, bear by MTUs of 1500
+MOST_PARTS = 130  # of a packet: two more than are kept
 
 
 def with_sum(packet: bytearray) -> bytearray:
@@ -512,6 +515,51 @@ class Session:
         self.outbound()
 
 
+class LongSession(Session):
+    """One whose packets are often longer than a link takes, and sometimes come in pieces."""
+
+    long = 0.4
+
+    def long_size(self, edges: Sequence[int]) -> int:
+        """A length about that of a link's longest packet, of so many full parts, any, or seldom the longest that may be."""
+        step, size = self.rng.random(), edges[0] if edges else 0
+        if step < 0.3:
+            return self.rng.choice(edges)
+        if step < 0.6:
+            return size + self.rng.choice((FRAGMENT_DATA, PIECE_DATA)) * self.rng.randint(1, 3) + self.rng.randint(-60, 60)
+        return self.rng.randrange(6_000) if step < 0.96 else self.rng.randint(65_380, 65_455)
+
+    def add(self, kind: int, body: bytes, moment: Optional[int] = None) -> None:
+        """A record, or several of the parts of its packet, in any order. One of them may be missing, or come twice."""
+        rng = self.rng
+        parts = parts_of(rng, kind, bytes(body)) if rng.random() < 0.15 else []
+        if not parts:
+            super().add(kind, body, moment)
+            return
+        if rng.random() < 0.7:
+            rng.shuffle(parts)
+        if rng.random() < 0.1:
+            parts[0] = rng.choice(parts)
+        for part in parts:
+            super().add(kind, part, self.state.clock or moment)
+
+
+def parts_of(rng: random.Random, kind: int, body: bytes) -> List[bytes]:
+    """The IPv6 fragments of a packet, or its IPv4 pieces; none where it can't be cut into them."""
+    size, is_tunnel = 8 * rng.choice((rng.randint(1, 40), 181, rng.randint(60, 500))), kind == SOFTWIRE
+    packet = body[IPV6_HEADER:] if is_tunnel else body
+    if kind not in (SOFTWIRE, PUBLIC) or is_tunnel and body[6:7] != bytes([IPV4_IN_IPV6]):
+        return []
+    if not 20 < len(packet) <= min(65_535, MOST_PARTS * size):
+        return []
+    if not is_tunnel:
+        return ipv4_pieces(packet, size)
+    around = Softwire(packet, number(body, 8, 16))
+    if rng.random() < 0.6:
+        return tunnel_fragments(around, size, rng.choice((1, 2, rng.randrange(1 << 32))))
+    return [around._replace(inner=piece).spelled() for piece in ipv4_pieces(packet, size)]
+
+
 def ordinary(rng: random.Random, told: Optional[Told] = None, make: Type[Session] = Session) -> Session:
     """Records of every kind, few subscribers and ports."""
     session = make(rng, told)
@@ -645,6 +693,14 @@ def errors(rng: random.Random, make: Type[Session] = Session) -> Session:
         else:
             (session.reply if step < 0.95 else session.other)()
     return session
+
+
+def long_packets(rng: random.Random) -> Session:
+    """A session of another kind, with packets that are cut, and that come in pieces, among the others."""
+    return rng.choice(KINDS)(rng, make=LongSession)
+
+
+KINDS: List[Callable[..., Session]] = [ordinary, connections, inward, echoes, errors]
 
 
 def long_input(rng: random.Random) -> Session:
